@@ -1,0 +1,194 @@
+-- Laws of the lists and bounded searches of specs/Lists: for each kind of loop what holds at its start (none), after a turn (step) and at its end (done). Assumes nothing.
+use mathlib.Core.Path.{_≡_, refl, sym, ap, ap₂, _∙_}
+use mathlib.Core.Bool.{Bool, true, false, _&&_, _||_}
+use mathlib.Core.List.{List, [], _∷_, _++_, append-nil}
+use Prim.Native.Nat.{ℕ, zero, suc, _+_, _*_, _-_, _/_, _%_, _<_, _≤_}
+use native.Mathlib.Numerals.{add-one}
+use native.Mathlib.Nat.{add-zero, add-suc, div-lt-iff-lt-mul, mod-lt, mul-le-mul-right, suc-mul, not-suc-le-zero, mul-add-div-right, mul-add-mod-self-right, div-eq-of-lt, mod-eq-of-lt}
+use native.Mathlib.Omega.{arith}
+use lib.ListN.{length, getD, set, drop, length-append, length-drop, drop-of-length-le, length-set}
+use lib.Seq.{drop-cons, drop-append-le, drop-drop, set-at, append-snoc, getD-set-other, sets}
+use Rattle.laws.specs.Base.{pick}
+use Rattle.laws.specs.Lists.{run, tabulate, puts, allBelow, anyBelow, countBelow, firstOf, lastN}
+
+-- ---- tests of all, of some and of how many numbers below a bound
+pub allBelow-none : (t : ℕ → Bool) → true ≡ allBelow 0 t
+unfolding allBelow
+allBelow-none t = refl
+
+pub allBelow-step : (i : ℕ) (t : ℕ → Bool) {ok x : Bool} → ok ≡ allBelow i t → x ≡ t i → (ok && x) ≡ allBelow (i + 1) t
+unfolding allBelow
+allBelow-step i t h e = rw (add-one, h, e)
+
+pub anyBelow-none : (t : ℕ → Bool) → false ≡ anyBelow 0 t
+unfolding anyBelow
+anyBelow-none t = refl
+
+pub anyBelow-step : (i : ℕ) (t : ℕ → Bool) {ok x : Bool} → ok ≡ anyBelow i t → x ≡ t i → (ok || x) ≡ anyBelow (i + 1) t
+unfolding anyBelow
+anyBelow-step i t h e = rw (add-one, h, e)
+
+pub countBelow-none : (t : ℕ → Bool) → 0 ≡ countBelow 0 t
+unfolding countBelow
+countBelow-none t = refl
+
+pub countBelow-step : (i : ℕ) (t : ℕ → Bool) {n x : ℕ} → n ≡ countBelow i t → x ≡ pick (t i) 1 0 → n + x ≡ countBelow (i + 1) t
+unfolding countBelow
+countBelow-step i t h e = rw (add-one, h, e)
+
+pub countBelow-most : (n : ℕ) (t : ℕ → Bool) → countBelow n t ≤ n
+unfolding countBelow
+countBelow-most zero t = omega arith
+countBelow-most (suc n) t = one (t n) (countBelow-most n t)
+  where
+    one : (b : Bool) → countBelow n t ≤ n → countBelow n t + pick b 1 0 ≤ suc n
+    one true h = omega arith
+    one false h = omega arith
+
+-- ---- a list that is tabulated
+module _ {A : Type 0} (f : ℕ → A) where
+  pub length-run : (n i : ℕ) → length (run n i f) ≡ n
+  unfolding run
+  length-run zero i = refl
+  length-run (suc n) i = ap suc (length-run n (suc i))
+
+  pub getD-run : (n i k : ℕ) (d : A) → k < n → getD (run n i f) k d ≡ f (i + k)
+  unfolding run
+  getD-run zero i k d h = absurd (not-suc-le-zero h)
+  getD-run (suc n) i zero d h = ap f (omega arith)
+  getD-run (suc n) i (suc k) d h = getD-run n (suc i) k d (omega arith) ∙ ap f (omega arith)
+
+  pub getD-tabulate : (n k : ℕ) (d : A) → k < n → getD (tabulate n f) k d ≡ f k
+  getD-tabulate n k d h = getD-run n 0 k d h ∙ ap f (omega arith)
+
+  run-snoc : (n i : ℕ) → run (suc n) i f ≡ run n i f ++ (f (i + n) ∷ [])
+  unfolding run
+  run-snoc zero i = ap (λ (k : ℕ). f k ∷ []) (sym (add-zero i))
+  run-snoc (suc n) i = ap (λ (l : List A). f i ∷ l) (run-snoc n (suc i) ∙ ap (λ (k : ℕ). run n (suc i) f ++ (f k ∷ [])) (omega arith))
+
+  pub tabulate-next : (n : ℕ) → tabulate (n + 1) f ≡ tabulate n f ++ (f n ∷ [])
+  tabulate-next n = rw add-one (run-snoc n 0 ∙ ap (λ (k : ℕ). run n 0 f ++ (f k ∷ [])) (omega arith))
+
+  -- a loop that fills a list from the front: after n turns it is `tabulate n f ++ drop n d`
+  pub tab-none : (d : List A) → d ≡ tabulate 0 f ++ d
+  unfolding run
+  tab-none d = refl
+
+  pub tab-step : (n : ℕ) (d l : List A) (v : A) → l ≡ tabulate n f ++ drop n d → n < length d → v ≡ f n → set l n v ≡ tabulate (n + 1) f ++ drop (n + 1) d
+  tab-step n d l v i h e =
+      rw (i, tabulate-next n, add-one, drop-cons d n v h, set-at (tabulate n f) (getD d n v) (drop (suc n) d) v n (length-run n 0), append-snoc, e)
+
+  pub tab-done : (n m : ℕ) (d l : List A) → l ≡ tabulate n f ++ drop n d → n ≡ m → length d ≤ m → l ≡ tabulate m f
+  tab-done n m d l i e h = rw (i, e, drop-of-length-le d h, append-nil)
+
+  -- a loop that stores f i at place at + i, n of them in all: what is to go is the same at every turn
+  run-one : (l : List A) (p n i : ℕ) → sets l p (run (suc n) i f) ≡ sets (set l p (f i)) (suc p) (run n (suc i) f)
+  unfolding run
+  run-one l p n i = refl
+
+  pub run-none : (l : List A) (at n : ℕ) → sets l (at + 0) (run (n - 0) 0 f) ≡ sets l at (run n 0 f)
+  run-none l at n = let a : at + 0 ≡ at = omega arith in let b : n - 0 ≡ n = omega arith in rw (a, b)
+
+  pub run-step : (l r : List A) (at n i : ℕ) (v : A) → i < n → v ≡ f i → sets l (at + i) (run (n - i) i f) ≡ r → sets (set l (at + i) v) (at + (i + 1)) (run (n - (i + 1)) (i + 1) f) ≡ r
+  run-step l r at n i v h q e =
+      let a : at + (i + 1) ≡ suc (at + i) = omega arith in
+      let m : n - i ≡ suc (n - (i + 1)) = omega arith in
+      let j : i + 1 ≡ suc i = omega arith in
+      rw (a, q, j) ((sym (run-one l (at + i) (n - suc i) i)) ∙ rw (m, j) at e)
+
+  pub run-done : (l r : List A) (at n i : ℕ) → n ≤ i → sets l (at + i) (run (n - i) i f) ≡ r → l ≡ r
+  unfolding run
+  run-done l r at n i h e = let z : n - i ≡ 0 = omega arith in rw z at e
+
+pub tabulate-same : {A : Type 0} (n : ℕ) (f g : ℕ → A) → ((k : ℕ) → k < n → f k ≡ g k) → tabulate n f ≡ tabulate n g
+unfolding run
+tabulate-same n f g e = from n 0 (λ k h. e k (omega arith))
+  where
+    from : (m i : ℕ) → ((k : ℕ) → k < i + m → f k ≡ g k) → run m i f ≡ run m i g
+    from zero i h = refl
+    from (suc m) i h = ap₂ _∷_ (h i (omega arith)) (from m (suc i) (λ k l. h k (omega arith)))
+
+-- ---- scattered stores
+module _ {A : Type 0} (l : List A) (at : ℕ → ℕ) (v : ℕ → A) where
+  pub puts-none : l ≡ puts l at v 0
+  unfolding puts
+  puts-none = refl
+
+  pub puts-step : (n : ℕ) (s : List A) (a : A) → s ≡ puts l at v n → a ≡ v n → set s (at n) a ≡ puts l at v (n + 1)
+  unfolding puts
+  puts-step n s a h e = rw (add-one, h, e)
+
+  pub length-puts : (n : ℕ) → length (puts l at v n) ≡ length l
+  unfolding puts
+  length-puts zero = refl
+  length-puts (suc n) = length-set (puts l at v n) (at n) (v n) ∙ length-puts n
+
+  -- a place that no store hits
+  pub getD-puts-other : (n j : ℕ) (d : A) → ((i : ℕ) → i < n → j ≡ at i → ⊥) → getD (puts l at v n) j d ≡ getD l j d
+  unfolding puts
+  getD-puts-other zero j d h = refl
+  getD-puts-other (suc n) j d h =
+      getD-set-other (puts l at v n) (at n) j (v n) d (h n (omega arith)) ∙ getD-puts-other n j d (λ i p. h i (omega arith))
+
+-- ---- the first number that passes a test
+pub firstOf-found : (n i : ℕ) (t : ℕ → Bool) → i < n → ((k : ℕ) → k < i → t k ≡ false) → t i ≡ true → firstOf n t ≡ i
+unfolding firstOf
+firstOf-found zero i t h all e = absurd (not-suc-le-zero h)
+firstOf-found (suc n) zero t h all e = rw e
+firstOf-found (suc n) (suc i) t h all e =
+    rw (all zero (omega arith), firstOf-found n i (λ k. t (suc k)) (omega arith) (λ k p. all (suc k) (omega arith)) e)
+
+pub firstOf-none : (n : ℕ) (t : ℕ → Bool) → ((k : ℕ) → k < n → t k ≡ false) → firstOf n t ≡ n
+unfolding firstOf
+firstOf-none zero t all = refl
+firstOf-none (suc n) t all = rw (all zero (omega arith), firstOf-none n (λ k. t (suc k)) (λ k p. all (suc k) (omega arith)))
+
+-- what was passed over failed the test
+pub firstOf-passed : (n : ℕ) (t : ℕ → Bool) (k : ℕ) → k < firstOf n t → t k ≡ false
+unfolding firstOf
+firstOf-passed zero t k h = absurd (not-suc-le-zero h)
+firstOf-passed (suc n) t k h = go (t zero) refl (firstOf-passed n (λ j. t (suc j))) k h
+  where
+    go : (b : Bool) → t zero ≡ b → ((j : ℕ) → j < firstOf n (λ i. t (suc i)) → t (suc j) ≡ false) → (k : ℕ) → k < pick b zero (suc (firstOf n (λ i. t (suc i)))) → t k ≡ false
+    go true e rest k h = absurd (not-suc-le-zero h)
+    go false e rest zero h = e
+    go false e rest (suc k) h = rest k (omega arith)
+
+-- ---- region and market of the flat number k = region × M + market
+pub flat-div : (r m M : ℕ) → m < M → (r * M + m) / M ≡ r
+flat-div r m M h = let p : 0 < M = omega arith in mul-add-div-right p r m ∙ rw (div-eq-of-lt h) (omega arith)
+
+pub flat-mod : (r m M : ℕ) → m < M → (r * M + m) % M ≡ m
+flat-mod r m M h = mul-add-mod-self-right r M m ∙ mod-eq-of-lt h
+
+pub flat-lt : (r m R M : ℕ) → r < R → m < M → r * M + m < R * M
+flat-lt r m R M h l = omega (arith, mul-le-mul-right M h, suc-mul r M)
+
+-- the book's place 11 × region + market of a flat number
+pub flat-place : (k R M : ℕ) → k < R * M → R ≤ 8 → 0 < M → M ≤ 11 → 11 * (k / M) + k % M < 88
+flat-place k R M h r p m = omega (arith, div-lt-iff-lt-mul p .1 h, mod-lt k p)
+
+-- ---- the last n of a list, with one more
+module _ {A : Type 0} (W : ℕ) where
+  pub lastN-length : (u : List A) → length (lastN W u) ≤ W
+  unfolding lastN
+  lastN-length u = simp length-drop (omega arith)
+
+  -- fewer than W: all stay
+  pub lastN-grows : (u : List A) (p : A) → length (lastN W u) < W → lastN W (u ++ p ∷ []) ≡ lastN W u ++ p ∷ []
+  unfolding lastN
+  lastN-grows u p h =
+      let a : length u < W = omega (arith, simp length-drop at h) in
+      let e : length (u ++ p ∷ []) - W ≡ 0 = simp length-append (omega arith) in
+      let e′ : length u - W ≡ 0 = omega arith in
+      rw (e, e′)
+
+  -- W: the oldest goes
+  pub lastN-slides : (u : List A) (p : A) → 0 < W → W ≤ length (lastN W u) → lastN W (u ++ p ∷ []) ≡ drop 1 (lastN W u) ++ p ∷ []
+  unfolding lastN
+  lastN-slides u p w h =
+      let a : W ≤ length u = omega (arith, simp length-drop at h) in
+      let e : length (u ++ p ∷ []) - W ≡ length u - W + 1 = simp length-append (omega arith) in
+      let f : length u - W + 1 ≤ length u = omega arith in
+      ap (λ (n : ℕ). drop n (u ++ p ∷ [])) e ∙ drop-append-le (length u - W + 1) u (p ∷ []) f
+      ∙ ap (λ (l : List A). l ++ p ∷ []) (sym (drop-drop 1 (length u - W) u))

@@ -1,0 +1,1 @@
+// No code: this crate holds definitions and laws that the other crates cite.

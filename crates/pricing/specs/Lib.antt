@@ -1,0 +1,7 @@
+pub mod Verdict
+pub mod Rounding
+pub mod Holding
+pub mod Carrying
+pub mod Indexing
+pub mod Schedule
+pub mod Text
