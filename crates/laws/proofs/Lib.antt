@@ -1,7 +1,10 @@
 pub mod Integers
 pub mod Machine
 pub mod Twos
+pub mod Orders
 pub mod Tests
 pub mod Lists
 pub mod Totals
 pub mod Bytes
+pub mod Fields
+pub mod Tables

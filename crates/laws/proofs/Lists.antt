@@ -1,14 +1,18 @@
 -- Laws of the lists and bounded searches of specs/Lists: for each kind of loop what holds at its start (none), after a turn (step) and at its end (done). Assumes nothing.
 use mathlib.Core.Path.{_≡_, refl, sym, ap, ap₂, _∙_}
 use mathlib.Core.Bool.{Bool, true, false, _&&_, _||_}
+use mathlib.Core.Logic.{⊎-elim}
 use mathlib.Core.List.{List, [], _∷_, _++_, append-nil}
 use Prim.Native.Nat.{ℕ, zero, suc, _+_, _*_, _-_, _/_, _%_, _<_, _≤_}
 use native.Mathlib.Numerals.{add-one}
 use native.Mathlib.Nat.{add-zero, add-suc, div-lt-iff-lt-mul, mod-lt, mul-le-mul-right, suc-mul, not-suc-le-zero, mul-add-div-right, mul-add-mod-self-right, div-eq-of-lt, mod-eq-of-lt}
 use native.Mathlib.Omega.{arith}
-use lib.ListN.{length, getD, set, drop, length-append, length-drop, drop-of-length-le, length-set}
+use lib.Dec.{ltb}
+use borrow.Author.Tests.{lt-ltb, le-ltb}
+use lib.ListN.{length, getD, set, drop, replicate, length-append, length-drop, drop-of-length-le, length-set}
 use lib.Seq.{drop-cons, drop-append-le, drop-drop, set-at, append-snoc, getD-set-other, sets}
 use Rattle.laws.specs.Base.{pick}
+use Rattle.laws.proofs.Tests.{and-left, and-right, or-left, or-right, true-is, lt-or-ge}
 use Rattle.laws.specs.Lists.{run, tabulate, puts, allBelow, anyBelow, countBelow, firstOf, lastN}
 
 -- ---- tests of all, of some and of how many numbers below a bound
@@ -44,6 +48,57 @@ countBelow-most (suc n) t = one (t n) (countBelow-most n t)
     one : (b : Bool) → countBelow n t ≤ n → countBelow n t + pick b 1 0 ≤ suc n
     one true h = omega arith
     one false h = omega arith
+
+-- below a + b: below a, and the b after
+pub countBelow-split : (a b : ℕ) (t : ℕ → Bool) → countBelow (a + b) t ≡ countBelow a t + countBelow b (λ k. t (a + k))
+unfolding countBelow
+countBelow-split a zero t = let e : a + 0 ≡ a = omega arith in rw e (omega arith)
+countBelow-split a (suc b) t = let e : a + suc b ≡ suc (a + b) = omega arith in rw (e, countBelow-split a b t) (omega arith)
+
+pub countBelow-same : (n : ℕ) (t u : ℕ → Bool) → ((k : ℕ) → k < n → t k ≡ u k) → countBelow n t ≡ countBelow n u
+unfolding countBelow
+countBelow-same zero t u e = refl
+countBelow-same (suc n) t u e = rw (countBelow-same n t u (λ k h. e k (omega arith)), e n (omega arith))
+
+-- all below n pass a test exactly if each does, and some does exactly if there is one that does
+pub all-at : (n : ℕ) (t : ℕ → Bool) → allBelow n t ≡ true → (k : ℕ) → k < n → t k ≡ true
+unfolding allBelow
+all-at zero t e k h = absurd (not-suc-le-zero h)
+all-at (suc n) t e k h =
+    ⊎-elim (λ l. all-at n t (and-left (allBelow n t) (t n) e) k l)
+    (λ g. let q : k ≡ n = omega arith in rw q (and-right (allBelow n t) (t n) e)) (lt-or-ge k n)
+
+pub at-all : (n : ℕ) (t : ℕ → Bool) → ((k : ℕ) → k < n → t k ≡ true) → allBelow n t ≡ true
+unfolding allBelow
+at-all zero t h = refl
+at-all (suc n) t h = rw (at-all n t (λ k l. h k (omega arith)), h n (omega arith))
+
+pub any-at : (n : ℕ) (t : ℕ → Bool) → anyBelow n t ≡ true → (k : ℕ) × (k < n) × (t k ≡ true)
+unfolding anyBelow
+any-at zero t e = absurd (true-is e)
+any-at (suc n) t e = go (anyBelow n t) refl (any-at n t) e
+  where
+    go : (b : Bool) → anyBelow n t ≡ b → (anyBelow n t ≡ true → (k : ℕ) × (k < n) × (t k ≡ true)) → (b || t n) ≡ true → (k : ℕ) × (k < suc n) × (t k ≡ true)
+    go true q i u = let w = i q in (w .0, omega (arith, w .1), w .2)
+    go false q i u = (n, omega arith, u)
+
+pub at-any : (n : ℕ) (t : ℕ → Bool) (k : ℕ) → k < n → t k ≡ true → anyBelow n t ≡ true
+unfolding anyBelow
+at-any zero t k h e = absurd (not-suc-le-zero h)
+at-any (suc n) t k h e =
+    ⊎-elim (λ l. or-left (anyBelow n t) (t n) (at-any n t k l e))
+    (λ g. let q : k ≡ n = omega arith in or-right (anyBelow n t) (t n) (rw q at e)) (lt-or-ge k n)
+
+-- two tests that agree below n
+pub all-same : (n : ℕ) (t u : ℕ → Bool) → ((k : ℕ) → k < n → t k ≡ u k) → allBelow n t ≡ allBelow n u
+unfolding allBelow
+all-same zero t u e = refl
+all-same (suc n) t u e = rw (all-same n t u (λ k h. e k (omega arith)), e n (omega arith))
+
+pub any-same : (n : ℕ) (t u : ℕ → Bool) → ((k : ℕ) → k < n → t k ≡ u k) → anyBelow n t ≡ anyBelow n u
+unfolding anyBelow
+any-same zero t u e = refl
+any-same (suc n) t u e = rw (any-same n t u (λ k h. e k (omega arith)), e n (omega arith))
 
 -- ---- a list that is tabulated
 module _ {A : Type 0} (f : ℕ → A) where
@@ -81,6 +136,15 @@ module _ {A : Type 0} (f : ℕ → A) where
   pub tab-done : (n m : ℕ) (d l : List A) → l ≡ tabulate n f ++ drop n d → n ≡ m → length d ≤ m → l ≡ tabulate m f
   tab-done n m d l i e h = rw (i, e, drop-of-length-le d h, append-nil)
 
+  -- a + b of them: a, and the b after
+  pub run-split : (a b i : ℕ) → run (a + b) i f ≡ run a i f ++ run b (i + a) f
+  unfolding run
+  run-split zero b i = let e : 0 + b ≡ b = omega arith in let z : i + 0 ≡ i = omega arith in rw (e, z)
+  run-split (suc a) b i =
+      let e : suc a + b ≡ suc (a + b) = omega arith in
+      let z : i + suc a ≡ suc i + a = omega arith in
+      rw (e, z) (ap (λ (l : List A). f i ∷ l) (run-split a b (suc i)))
+
   -- a loop that stores f i at place at + i, n of them in all: what is to go is the same at every turn
   run-one : (l : List A) (p n i : ℕ) → sets l p (run (suc n) i f) ≡ sets (set l p (f i)) (suc p) (run n (suc i) f)
   unfolding run
@@ -100,13 +164,41 @@ module _ {A : Type 0} (f : ℕ → A) where
   unfolding run
   run-done l r at n i h e = let z : n - i ≡ 0 = omega arith in rw z at e
 
-pub tabulate-same : {A : Type 0} (n : ℕ) (f g : ℕ → A) → ((k : ℕ) → k < n → f k ≡ g k) → tabulate n f ≡ tabulate n g
+-- two lists that agree at every place
+pub run-same : {A : Type 0} (n i j : ℕ) (f g : ℕ → A) → ((k : ℕ) → k < n → f (i + k) ≡ g (j + k)) → run n i f ≡ run n j g
 unfolding run
-tabulate-same n f g e = from n 0 (λ k h. e k (omega arith))
+run-same zero i j f g e = refl
+run-same (suc n) i j f g e =
+    let here : (a : ℕ) → a ≡ a + 0 = λ a. omega arith in
+    let next : (a k : ℕ) → suc a + k ≡ a + suc k = λ a k. omega arith in
+    ap₂ _∷_ (ap f (here i) ∙ e 0 (omega arith) ∙ ap g (sym (here j)))
+    (run-same n (suc i) (suc j) f g (λ k h. ap f (next i k) ∙ e (suc k) (omega arith) ∙ ap g (sym (next j k))))
+
+pub tabulate-same : {A : Type 0} (n : ℕ) (f g : ℕ → A) → ((k : ℕ) → k < n → f k ≡ g k) → tabulate n f ≡ tabulate n g
+tabulate-same n f g e = run-same n 0 0 f g (λ k h. let z : 0 + k ≡ k = omega arith in rw z (e k h))
+
+-- a loop that fills n copies of d from the front, and stops after m
+pub tab-below : {A : Type 0} (f : ℕ → A) (d : A) (n m : ℕ) → m ≤ n → tabulate m f ++ drop m (replicate n d) ≡ tabulate n (λ k. pick (ltb k m) (f k) d)
+unfolding run
+tab-below {A} f d n m h = from n m 0 h (omega arith)
   where
-    from : (m i : ℕ) → ((k : ℕ) → k < i + m → f k ≡ g k) → run m i f ≡ run m i g
-    from zero i h = refl
-    from (suc m) i h = ap₂ _∷_ (h i (omega arith)) (from m (suc i) (λ k l. h k (omega arith)))
+    rest : (n i : ℕ) → m ≤ i → replicate n d ≡ run n i (λ k. pick (ltb k m) (f k) d)
+    rest zero i h = refl
+    rest (suc n) i h = ap₂ _∷_ (rw (le-ltb i m h)) (rest n (suc i) (omega arith))
+
+    from : (n l i : ℕ) → l ≤ n → m ≡ i + l → run l i f ++ drop l (replicate n d) ≡ run n i (λ k. pick (ltb k m) (f k) d)
+    from n zero i h e = rest n i (omega arith)
+    from zero (suc l) i h e = absurd (not-suc-le-zero h)
+    from (suc n) (suc l) i h e = let b : i < m = omega arith in ap₂ _∷_ (rw (lt-ltb i m b)) (from n l (suc i) (omega arith) (omega arith))
+
+-- the same everywhere
+pub tabulate-const : {A : Type 0} (a : A) (n : ℕ) → tabulate n (λ _. a) ≡ replicate n a
+unfolding run
+tabulate-const {A} a n = from n 0
+  where
+    from : (m i : ℕ) → run m i (λ _. a) ≡ replicate m a
+    from zero i = refl
+    from (suc m) i = ap (λ (l : List A). a ∷ l) (from m (suc i))
 
 -- ---- scattered stores
 module _ {A : Type 0} (l : List A) (at : ℕ → ℕ) (v : ℕ → A) where

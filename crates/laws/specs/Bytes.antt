@@ -1,6 +1,6 @@
--- Numbers as bytes, the lower byte first. Assumes nothing.
+-- Numbers as bytes, the lower byte first, and fields one after the other. Assumes nothing.
 use Prim.Native.Nat.{ℕ, zero, suc, _+_, _*_, _/_, _%_}
-use mathlib.Core.List.{List, [], _∷_}
+use mathlib.Core.List.{List, [], _∷_, _++_}
 use lib.ListN.{take, drop}
 
 -- x in w bytes; what does not fit is left out
@@ -16,3 +16,19 @@ number (b ∷ bs) = b + 256 * number bs
 -- the number in the w bytes from a place
 unfoldable pub numberAt : List ℕ → ℕ → ℕ → ℕ
 numberAt l at w = number (take w (drop at l))
+
+-- fields of the widths ws, one after the other, that hold the numbers vs
+unfoldable pub encode : List ℕ → List ℕ → List ℕ
+encode [] vs = []
+encode (w ∷ ws) [] = []
+encode (w ∷ ws) (v ∷ vs) = le w v ++ encode ws vs
+
+-- the numbers in the fields of the widths ws at the front of a list
+unfoldable pub decode : List ℕ → List ℕ → List ℕ
+decode [] l = []
+decode (w ∷ ws) l = number (take w l) ∷ decode ws (drop w l)
+
+-- how many bytes fields take
+unfoldable pub sizeOf : List ℕ → ℕ
+sizeOf [] = 0
+sizeOf (w ∷ ws) = w + sizeOf ws

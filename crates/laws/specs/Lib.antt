@@ -1,3 +1,4 @@
 pub mod Base
 pub mod Lists
 pub mod Bytes
+pub mod Tables

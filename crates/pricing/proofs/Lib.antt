@@ -1,2 +1,5 @@
 pub mod Roundings
+pub mod Carries
+pub mod Schedules
 pub mod Texts
+pub mod Cases

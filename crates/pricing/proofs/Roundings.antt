@@ -2,13 +2,13 @@
 use mathlib.Core.Path.{_≡_, refl, ap}
 use mathlib.Core.Bool.{true, false}
 use Prim.Native.Nat.{ℕ, zero, suc, _+_, _-_, _*_, _/_, _≤_, _<_}
-use native.Mathlib.Nat.{div-add-mod, mod-lt, div-lt-iff-lt-mul, le-div-iff-mul-le}
+use native.Mathlib.Nat.{div-add-mod, mod-lt, div-lt-iff-lt-mul, le-div-iff-mul-le, div-zero, div-mul-le-self, div-eq-of-lt, le-trans}
 use native.Mathlib.Decide.{ℕ-discrete}
 use native.Mathlib.Omega.{arith}
 use lib.IntN.{ℤ, pos, negsuc, negℤ, natAbs, _+ℤ_, _-ℤ_, _*ℤ_}
-use lib.Signed.{_≤ℤ_, ltZ, quotZ}
+use lib.Signed.{_≤ℤ_, leZ, ltZ, quotZ}
 use Rattle.pricing.specs.Rounding.{nearest, rounded, Nearest}
-use Rattle.laws.proofs.Integers.{parts, integers, same, abs-parts, abs-neg, quot-neg, neg-times}
+use Rattle.laws.proofs.Integers.{parts, integers, same, le-test, abs-parts, abs-neg, quot-neg, neg-times}
 
 -- the nearest is within half a divisor, and at a half it is the larger
 pub nearest-law : (m d : ℕ) → 0 < d → (2 * (nearest m d * d) ≤ 2 * m + d) × (2 * m < 2 * (nearest m d * d) + d)
@@ -33,7 +33,7 @@ round-law (negsuc m) d h =
     }
 
 -- a bound on the result
-nearest-size : (m d k : ℕ) → 0 < d → m ≤ k * d → nearest m d ≤ k
+pub nearest-size : (m d k : ℕ) → 0 < d → m ≤ k * d → nearest m d ≤ k
 unfolding nearest
 nearest-size m d k h b =
     let two : 0 < 2 * d = omega arith in
@@ -44,6 +44,34 @@ pub round-size : (n : ℤ) (d k : ℕ) → 0 < d → natAbs n ≤ k * d → natA
 unfolding rounded
 round-size (pos m) d k h b = nearest-size m d k h b
 round-size (negsuc m) d k h b = simp abs-neg (nearest-size (suc m) d k h b)
+
+-- a larger dividend has no smaller result
+nearest-mono : (m n d : ℕ) → m ≤ n → nearest m d ≤ nearest n d
+unfolding nearest
+nearest-mono m n zero h = omega (arith, div-zero (2 * m + 0))
+nearest-mono m n (suc d) h =
+    let p : 0 < 2 * suc d = omega arith in
+    le-div-iff-mul-le p .1 (le-trans (div-mul-le-self (2 * m + suc d) (2 * suc d)) (omega arith))
+
+pub round-mono : (x y : ℤ) (d : ℕ) → leZ x y ≡ true → leZ (rounded x d) (rounded y d) ≡ true
+unfolding rounded
+round-mono (pos a) (pos b) d h = le-test (pos (nearest a d)) (pos (nearest b d)) (omega (arith, nearest-mono a b d (omega integers)))
+round-mono (pos a) (negsuc b) d h = absurd (omega integers)
+round-mono (negsuc a) (pos b) d h = le-test (negℤ (pos (nearest (suc a) d))) (pos (nearest b d)) (simp parts (omega arith))
+round-mono (negsuc a) (negsuc b) d h =
+    le-test (negℤ (pos (nearest (suc a) d))) (negℤ (pos (nearest (suc b) d)))
+    (simp parts (omega (arith, nearest-mono (suc b) (suc a) d (omega integers))))
+
+-- a bound from below
+pub nearest-least : (m d k : ℕ) → 0 < d → 2 * (k * d) ≤ 2 * m + d → k ≤ nearest m d
+unfolding nearest
+nearest-least m d k h b = let two : 0 < 2 * d = omega arith in le-div-iff-mul-le two .1 (omega arith)
+
+-- the sign goes through
+pub round-neg : (k d : ℕ) → 0 < d → rounded (negℤ (pos k)) d ≡ negℤ (pos (nearest k d))
+unfolding rounded nearest
+round-neg zero d h = let s : 2 * 0 + d < 2 * d = omega arith in rw (div-eq-of-lt s)
+round-neg (suc k) d h = refl
 
 -- the machine's way to it, on either side of 0
 pub round-below : (n d : ℤ) → ltZ n (pos 0) ≡ true → pos 1 ≤ℤ d → quotZ (pos 2 *ℤ n -ℤ d) (pos 2 *ℤ d) ≡ rounded n (natAbs d)
@@ -65,7 +93,7 @@ nearest-only : (m d q : ℕ) → 0 < d → 2 * (q * d) ≤ 2 * m + d → 2 * m <
 unfolding nearest
 nearest-only m d q h a b =
     let two : 0 < 2 * d = omega arith in
-    let low : q ≤ (2 * m + d) / (2 * d) = le-div-iff-mul-le two .1 (omega arith) in
+    let low = nearest-least m d q h a in
     let high : (2 * m + d) / (2 * d) < q + 1 = div-lt-iff-lt-mul two .1 (omega arith) in
     omega arith
 

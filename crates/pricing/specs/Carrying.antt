@@ -1,5 +1,6 @@
--- A limit carried over one link. Assumes nothing.
+-- A limit carried over one link, and over links in turn. Assumes nothing.
 use mathlib.Core.Bool.{Bool, true, false}
+use mathlib.Core.List.{List, [], _∷_}
 use Prim.Native.Nat.{ℕ, _≤_}
 use lib.IntN.{ℤ, pos, _*ℤ_}
 use Rattle.pricing.specs.Rounding.{rounded}
@@ -14,3 +15,13 @@ carried false factor limit = rounded (limit *ℤ pos factor) 10000
 pub record Factor (factor : ℕ) : Type 0 where
   pub least : 10000 ≤ factor
   pub most : factor ≤ 20000
+
+-- "Limits travel on over any number of links .. Each link rounds": over links with these factors, the source's first
+unfoldable pub along : Bool → List ℕ → ℤ → ℤ
+along caps [] limit = limit
+along caps (factor ∷ factors) limit = along caps factors (carried caps factor limit)
+
+-- each of them a factor
+abbrev pub Factors : List ℕ → Type 0
+Factors [] = Unit {0}
+Factors (factor ∷ factors) = Factor factor × Factors factors

@@ -1,46 +1,45 @@
+-- `pricing::schedule::days_of` meets its contract. The loop's invariant: the count of the days passed. Assumes nothing.
+use mathlib.Core.Path.{_≡_}
+use Prim.Native.Nat.{_≤_, _-_}
+use native.Mathlib.Omega.{arith}
+use borrow.Author.Needs.{needs}
+use lib.Dec.{eqb}
+use lib.ListN.{getD}
+use Rattle.laws.specs.Lists.{countBelow}
+use Rattle.laws.proofs.Lists.{countBelow-none}
+use Rattle.pricing.proofs.Schedules.{count-next}
 use Rattle.pricing.proofs.schedule.days_of.Statement.{statement}
 use Rattle.pricing.proofs.schedule.days_of.Tie as tie
-use Rattle.pricing.proofs.schedule.days_of.Reads as reads
-use Rattle.pricing.proofs.schedule.days_of.Lts as lts
-use Rattle.pricing.proofs.schedule.one_if.Reads as one-if-reads
 
 abbrev Inv-loop : tie.InvT-loop
-Inv-loop kinds kind n₀ d₀ n d = ?
+Inv-loop kinds kind n₀ d₀ n d = (d ≤ 28) × (n ≡ countBelow d (λ i. eqb (getD kinds i 0) kind))
 
 abbrev μ-loop : tie.MeasureT-loop
-μ-loop kinds kind n₀ d₀ n d = ?
+μ-loop kinds kind n₀ d₀ n d = 28 - d
 
--- src/schedule.rt:128:5
 loop-holds : tie.Need-loop-holds Inv-loop μ-loop
-loop-holds c = ?
+loop-holds c = (omega arith, countBelow-none (λ i. eqb (getD (c .before .args .kinds .now) i 0) (c .before .args .kind)))
 
--- src/schedule.rt:129:21
 shared-slice-read-one-if : tie.Need-shared-slice-read-one-if Inv-loop μ-loop
-shared-slice-read-one-if c = ?
+shared-slice-read-one-if c = search needs
 
--- src/schedule.rt:129:14
 one-if-requires : tie.Need-one-if-requires Inv-loop μ-loop
-one-if-requires c κs = ?
+one-if-requires c κs = search needs
 
--- src/schedule.rt:129:9
 add-n : tie.Need-add-n Inv-loop μ-loop
-add-n c = ?
+add-n c = omega (arith, count-next _ _ (c .before .before .before .loop .inv .1) (c .one-if .ensures) .1)
 
--- src/schedule.rt:130:9
 add-d : tie.Need-add-d Inv-loop μ-loop
-add-d c = ?
+add-d c = search needs
 
--- src/schedule.rt:128:5
 loop-less : tie.Need-loop-less Inv-loop μ-loop
-loop-less c = ?
+loop-less c = search needs
 
--- src/schedule.rt:128:5
 loop-again : tie.Need-loop-again Inv-loop μ-loop
-loop-again c = ?
+loop-again c = (omega arith, count-next _ _ (c .before .before .before .loop .inv .1) (c .one-if .ensures) .0)
 
--- src/schedule.rt:122:1
 returns : tie.Need-returns Inv-loop μ-loop
-returns c = ?
+returns c = let l = c .before .loop in let e : l .d ≡ 28 = omega arith in rw e at (l .inv .1)
 
 pub days-of-spec : {M : Type 1} → statement M
 days-of-spec =

@@ -1,69 +1,78 @@
+-- `pricing::schedule::half_hour` meets its contract. The loop's invariant: the sum of the prices passed. Nothing wraps, by the half-hour's place and size. Assumes nothing.
+use mathlib.Core.Path.{_≡_, ap, _∙_}
+use Prim.Native.Nat.{ℕ, _+_, _-_, _≤_}
+use native.Mathlib.Omega.{arith}
+use borrow.Author.Needs.{needs}
+use lib.IntN.{ℤ, _+ℤ_}
+use mir.Syntax.{w32, w64}
+use mir.Val.{SFits, toZ}
+use Rattle.laws.specs.Lists.{tabulate, total}
+use Rattle.laws.proofs.Integers.{signed, abs-fits, i32-i64}
+use Rattle.pricing.proofs.Schedules.{inHalf, total-none, total-more, within, half-size}
 use Rattle.pricing.proofs.schedule.half_hour.Statement.{statement}
 use Rattle.pricing.proofs.schedule.half_hour.Tie as tie
-use Rattle.pricing.proofs.schedule.half_hour.Reads as reads
-use Rattle.pricing.proofs.schedule.half_hour.Lts as lts
 
 abbrev Inv-loop : tie.InvT-loop
-Inv-loop halves prices d h from sum₀ j₀ sum j = ?
+Inv-loop halves prices d h from sum₀ j₀ sum j =
+    (j ≤ 6) × (toZ w64 sum ≡ total (tabulate j (inHalf halves prices d h)))
 
 abbrev μ-loop : tie.MeasureT-loop
-μ-loop halves prices d h from sum₀ j₀ sum j = ?
+μ-loop halves prices d h from sum₀ j₀ sum j = 6 - j
 
--- src/schedule.rt:94:21
 mul-from : tie.Need-mul-from Inv-loop μ-loop
-mul-from c = ?
+mul-from c = omega arith
 
--- src/schedule.rt:94:16
 mul-from-2 : tie.Need-mul-from-2 Inv-loop μ-loop
-mul-from-2 c = ?
+mul-from-2 c = omega (arith, within (c .pre .0) (c .pre .1))
 
--- src/schedule.rt:94:35
 mul-from-3 : tie.Need-mul-from-3 Inv-loop μ-loop
-mul-from-3 c = ?
+mul-from-3 c = omega arith
 
--- src/schedule.rt:94:16
 add-from : tie.Need-add-from Inv-loop μ-loop
-add-from c = ?
+add-from c = omega (arith, within (c .pre .0) (c .pre .1))
 
--- src/schedule.rt:97:5
 loop-holds : tie.Need-loop-holds Inv-loop μ-loop
-loop-holds c = ?
+loop-holds c = (omega arith, total-none _)
 
--- src/schedule.rt:98:23
 add-sum : tie.Need-add-sum Inv-loop μ-loop
-add-sum c = ?
+add-sum c = let s = c .before .before in omega (arith, within (s .pre .0) (s .pre .1))
 
--- src/schedule.rt:98:16
 mul-sum : tie.Need-mul-sum Inv-loop μ-loop
-mul-sum c = ?
+mul-sum c = let s = c .before .before in omega (arith, within (s .pre .0) (s .pre .1))
 
--- src/schedule.rt:98:16
 shared-slice-copy-out-sum : tie.Need-shared-slice-copy-out-sum Inv-loop μ-loop
-shared-slice-copy-out-sum c = ?
+shared-slice-copy-out-sum c = let s = c .before .before in omega (arith, within (s .pre .0) (s .pre .1))
 
--- src/schedule.rt:98:16
+module _ (c : tie.After-sum Inv-loop μ-loop) where
+  abbrev price : ℕ → ℤ
+  price = let a = c .before .before .before .args in inHalf (a .halves) (a .prices .now) (a .d) (a .h)
+
+  fits : SFits w32 (price (c .before .before .loop .j))
+  fits = search needs
+
+  next : toZ w64 (c .before .before .loop .sum) +ℤ price (c .before .before .loop .j) ≡ total (tabulate (c .before .before .loop .j + 1) price)
+  next = ap (λ (z : ℤ). z +ℤ price (c .before .before .loop .j)) (c .before .before .loop .inv .1) ∙ total-more price _
+
+  next-fits : SFits w64 (total (tabulate (c .before .before .loop .j + 1) price))
+  next-fits = let p = c .before .before .before .pre in abs-fits w64 _ (omega (arith, half-size (p .0) (p .1) (c .before .before .loop .j + 1) (omega arith)))
+
 cast-sum : tie.Need-cast-sum Inv-loop μ-loop
-cast-sum c = ?
+cast-sum c = simp (signed, fits c) (i32-i64 (fits c))
 
--- src/schedule.rt:98:9
 add-sum-2 : tie.Need-add-sum-2 Inv-loop μ-loop
-add-sum-2 c = ?
+add-sum-2 c = simp (signed, fits c, next c) (next-fits c)
 
--- src/schedule.rt:99:9
 add-j : tie.Need-add-j Inv-loop μ-loop
-add-j c = ?
+add-j c = omega arith
 
--- src/schedule.rt:97:5
 loop-less : tie.Need-loop-less Inv-loop μ-loop
-loop-less c = ?
+loop-less c = omega arith
 
--- src/schedule.rt:97:5
 loop-again : tie.Need-loop-again Inv-loop μ-loop
-loop-again c = ?
+loop-again c = (omega arith, simp (signed, fits c, next c, next-fits c))
 
--- src/schedule.rt:89:1
 returns : tie.Need-returns Inv-loop μ-loop
-returns c = ?
+returns c = let l = c .before .loop in let e : l .j ≡ 6 = omega arith in rw e at (l .inv .1)
 
 pub half-hour-spec : {M : Type 1} → statement M
 half-hour-spec =

@@ -1,47 +1,40 @@
+-- `pricing::schedule::has_kind` meets its contract. The loop's invariant: the test of the days passed. Assumes nothing.
+use mathlib.Core.Path.{_≡_, refl}
+use Prim.Native.Nat.{_≤_, _-_}
+use native.Mathlib.Omega.{arith}
+use borrow.Author.Needs.{needs}
+use lib.Dec.{eqb}
+use lib.ListN.{getD}
+use Rattle.laws.specs.Lists.{anyBelow}
+use Rattle.laws.proofs.Lists.{anyBelow-none, anyBelow-step}
 use Rattle.pricing.proofs.schedule.has_kind.Statement.{statement}
 use Rattle.pricing.proofs.schedule.has_kind.Tie as tie
-use Rattle.pricing.proofs.schedule.has_kind.Reads as reads
-use Rattle.pricing.proofs.schedule.has_kind.Lts as lts
 
 abbrev Inv-loop : tie.InvT-loop
-Inv-loop kinds kind found₀ d₀ found d = ?
+Inv-loop kinds kind found₀ d₀ found d = (d ≤ 28) × (found ≡ anyBelow d (λ i. eqb (getD kinds i 0) kind))
 
 abbrev μ-loop : tie.MeasureT-loop
-μ-loop kinds kind found₀ d₀ found d = ?
+μ-loop kinds kind found₀ d₀ found d = 28 - d
 
--- src/schedule.rt:60:5
 loop-holds : tie.Need-loop-holds Inv-loop μ-loop
-loop-holds c = ?
+loop-holds c = (omega arith, anyBelow-none (λ i. eqb (getD (c .args .kinds .now) i 0) (c .args .kind)))
 
--- src/schedule.rt:61:26
 shared-slice-read-found : tie.Need-shared-slice-read-found Inv-loop μ-loop
-shared-slice-read-found c = ?
+shared-slice-read-found c = search needs
 
--- src/schedule.rt:62:9
 add-d : tie.Need-add-d Inv-loop μ-loop
-add-d c = ?
+add-d c = search needs
 
--- src/schedule.rt:60:5
 loop-less : tie.Need-loop-less Inv-loop μ-loop
-loop-less c = ?
+loop-less c = search needs
 
--- src/schedule.rt:60:5
 loop-again : tie.Need-loop-again Inv-loop μ-loop
-loop-again c = ?
+loop-again c = (omega arith, anyBelow-step _ _ (c .before .before .loop .inv .1) refl)
 
--- src/schedule.rt:54:1
 returns : tie.Need-returns Inv-loop μ-loop
-returns c = ?
+returns c = let l = c .before .loop in let e : l .d ≡ 28 = omega arith in rw e at (l .inv .1)
 
 pub has-kind-spec : {M : Type 1} → statement M
 has-kind-spec =
     tie.close
-    (tie.spec
-    Inv-loop
-    μ-loop
-    loop-holds
-    shared-slice-read-found
-    add-d
-    loop-less
-    loop-again
-    returns)
+    (tie.spec Inv-loop μ-loop loop-holds shared-slice-read-found add-d loop-less loop-again returns)

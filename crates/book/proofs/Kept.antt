@@ -1,0 +1,151 @@
+-- A book that an accepted call hands back is accepted by rule 10, a refused call hands back the lent book, and a setting moves
+-- no report. Assumes nothing.
+use mathlib.Core.Path.{_≡_, refl, sym, ap, _∙_}
+use mathlib.Core.Bool.{Bool, true, false, not, _&&_}
+use mathlib.Core.List.{List}
+use mathlib.Core.Logic.{inr}
+use Prim.Native.Nat.{ℕ, _<_, _≤_}
+use native.Mathlib.Omega.{arith}
+use borrow.Author.Tests.{eqb-true}
+use lib.Dec.{eqb}
+use lib.IntN.{ℤ, pos}
+use lib.ListN.{length, replicate, getD, getD-replicate}
+use Rattle.laws.specs.Base.{pick}
+use Rattle.laws.proofs.Tests.{and-left, and-right, by-test}
+use Rattle.pricing.specs.Verdict.{Verdict, accepted, refused}
+use Rattle.pricing.specs.Holding.{limitsOk}
+use Rattle.book.specs.declared.record.Book.{Book}
+use Rattle.book.specs.declared.record.Settings.{Settings}
+use Rattle.book.specs.Record.{closed, ringSize, isAccepted}
+use Rattle.book.specs.Validity.{parentOk, shapeOk, parentsOk, thresholdOk, valid}
+use Rattle.book.specs.Opening.{openVerdict, fresh, opened}
+use Rattle.book.specs.Setting.{thresholdVerdict, limitsVerdict, withSettings, Outcome, changed, setThreshold, setLimits}
+use Rattle.book.specs.Report.{reportOf, reportVerdict, reported}
+use Rattle.laws.proofs.Lists.{all-at}
+use Rattle.book.proofs.Validities.{parts, shape-is, parent-is, Valid, is-valid}
+use Rattle.book.proofs.Ways.{settingsOk, ringOk}
+
+-- a test that is both true and false
+never {ℓ} : {X : Type ℓ} (t : Bool) → t ≡ true → t ≡ false → X
+never t p q = let z : _≡_ {A = ℕ} 0 1 = cc in absurd (omega arith)
+
+-- where the next choice is an acceptance, its test failed
+passes : (t : Bool) (n : ℕ) (v : Verdict) → isAccepted (refused n) ≡ false → isAccepted (pick (not t) (refused n) v) ≡ true → (t ≡ true) × (isAccepted v ≡ true)
+passes true n v z e = (refl, e)
+passes false n v z e = never (isAccepted (refused n)) e z
+
+-- ---- rule 10 and the closed book
+pub closed-invalid : valid closed ≡ false
+unfolding valid
+closed-invalid = refl
+
+-- ---- opening
+zero-at : (r : ℕ) → r < 8 → _≡_ {A = ℕ} (getD (replicate 8 0) r 0) 0
+zero-at r h = getD-replicate 8 r 0 0 h
+
+module _ (s : Settings) (n : ℕ) (e : isAccepted (openVerdict s n) ≡ true) where
+  pub accepts : (settingsOk s ≡ true) × (n ≡ ringSize (s .regions) (s .services) (s .window)) × (thresholdOk (s .threshold) ≡ true) × (limitsOk (s .cap) (s .floor) ≡ true)
+  unfolding openVerdict
+  accepts =
+      let p = passes (settingsOk s) 20 _ refl e in
+      let q = passes (ringOk s n) 11 _ refl (p .1) in
+      let t = passes (thresholdOk (s .threshold)) 18 _ refl (q .1) in
+      let u = passes (limitsOk (s .cap) (s .floor)) 19 _ refl (t .1) in
+      (p .0, eqb-true _ _ (q .0), t .0, u .0)
+
+  shape : shapeOk (s .regions) (s .services) (s .window) (s .halves) (s .first) ≡ true
+  shape = and-left (shapeOk (s .regions) (s .services) (s .window) (s .halves) (s .first)) (parentsOk (s .regions) (s .parents)) (accepts .0)
+
+  parents : parentsOk (s .regions) (s .parents) ≡ true
+  parents = and-right (shapeOk (s .regions) (s .services) (s .window) (s .halves) (s .first)) (parentsOk (s .regions) (s .parents)) (accepts .0)
+
+  pub fresh-is : Valid (fresh s)
+  fresh-is =
+      let h = shape-is (s .regions) (s .services) (s .window) (s .halves) (s .first) shape in
+      record {
+        some-regions = h .0;
+        regions = h .1;
+        services = h .2;
+        some-window = h .3;
+        window = h .4;
+        some-halves = h .5;
+        halves = h .6;
+        position = h .7;
+        parent = λ r l. parent-is (s .regions) r (getD (s .parents) r 0) (all-at 8 (λ q. parentOk (s .regions) q (getD (s .parents) q 0)) parents r l);
+        threshold = accepts .2;
+        limits = accepts .3;
+        entries = omega arith;
+        count = λ r l. rw (zero-at r (omega arith)) (omega arith);
+        taken = λ r l. rw (zero-at r (omega arith)) (omega arith);
+        next = λ r l. rw (zero-at r (omega arith)) (omega arith);
+        next-is = λ r l. inr refl;
+        no-count = λ r l p. zero-at r p;
+        no-next = λ r l p. zero-at r p;
+        sum = λ k p x y. rw (getD-replicate 88 k (pos 0) (pos 0) p) (omega arith);
+        mark = λ k p x y. rw (getD-replicate {A = ℕ} 88 k 0 0 p) (omega arith);
+        no-sum = λ k p x. getD-replicate 88 k (pos 0) (pos 0) p;
+        no-mark = λ k p x. getD-replicate {A = ℕ} 88 k 0 0 p;
+      }
+
+module _ (s : Settings) (ring : List ℤ) where
+  -- an opening that is accepted
+  pub opened-is : isAccepted (opened s ring .verdict) ≡ true → (isAccepted (openVerdict s (length ring)) ≡ true) × (opened s ring .book ≡ fresh s) × (opened s ring .ring ≡ replicate (length ring) (pos 0))
+  unfolding opened
+  opened-is e = by-test (isAccepted (openVerdict s (length ring))) (λ h. (h, rw h, rw h)) (λ h. never _ (rw h at e) h)
+
+  pub opened-valid : isAccepted (opened s ring .verdict) ≡ true → valid (opened s ring .book) ≡ true
+  opened-valid e = let p = opened-is e in rw (p .1) (is-valid (fresh s) (fresh-is s (length ring) (p .0)))
+
+  -- one that is refused
+  pub opened-not : isAccepted (opened s ring .verdict) ≡ false → (opened s ring .book ≡ closed) × (opened s ring .ring ≡ ring)
+  unfolding opened
+  opened-not e = by-test (isAccepted (openVerdict s (length ring))) (λ h. never true refl (rw h at e)) (λ h. (rw h, rw h))
+
+-- ---- settings
+module _ (b : Book) (threshold cap floor : ℤ) (ok : valid b ≡ true) (t : thresholdOk threshold ≡ true) (l : limitsOk cap floor ≡ true) where
+  pub setting-valid : valid (withSettings b threshold cap floor) ≡ true
+  unfolding valid
+  setting-valid = let p = parts b ok in rw (p .0, p .1, t, l, p .4, p .5, p .6)
+
+  pub setting-report : (region market : ℕ) → reportOf (withSettings b threshold cap floor) region market ≡ reportOf b region market
+  unfolding reportOf
+  setting-report region market = rw (setting-valid, ok)
+
+-- what a setting of the lent book b, after which it is `after`, comes to
+pub record Sets (b after : Book) (o : Outcome) : Type 0 where
+  pub lent : isAccepted (o .verdict) ≡ true → valid b ≡ true
+  pub is : isAccepted (o .verdict) ≡ true → o .book ≡ after
+  pub kept : isAccepted (o .verdict) ≡ true → valid (o .book) ≡ true
+  pub back : isAccepted (o .verdict) ≡ false → o .book ≡ b
+  -- accepted or refused, reports are as before
+  pub report : (region market : ℕ) → reportOf (o .book) region market ≡ reportOf b region market
+
+module _ (b : Book) (v : Verdict) (threshold cap floor : ℤ) where
+  sets : (valid b ≡ true → isAccepted v ≡ true → (thresholdOk threshold ≡ true) × (limitsOk cap floor ≡ true))
+      → Sets b (withSettings b threshold cap floor) (changed b v (withSettings b threshold cap floor))
+  sets sound =
+      by-test (valid b)
+      (λ p. by-test (isAccepted v)
+      (λ h. let q = sound p h in let k = setting-valid b threshold cap floor p (q .0) (q .1) in rw (p, h) (record {
+        lent = λ e. p;
+        is = λ e. refl;
+        kept = λ e. k;
+        back = λ e. never true refl e;
+        report = λ region market. setting-report b threshold cap floor p (q .0) (q .1) region market;
+      }))
+      (λ h. rw (p, h) (record { lent = λ e. p; is = λ e. never (isAccepted v) e h; kept = λ e. p; back = λ e. refl; report = λ region market. refl })))
+      (λ p. rw p (record { lent = λ e. never true refl (sym e); is = λ e. never true refl (sym e); kept = λ e. never true refl (sym e); back = λ e. refl; report = λ region market. refl }))
+
+pub threshold-sets : (b : Book) (threshold : ℤ) → Sets b (withSettings b threshold (b .cap) (b .floor)) (setThreshold b threshold)
+unfolding setThreshold thresholdVerdict
+threshold-sets b threshold =
+    sets b (thresholdVerdict threshold) threshold (b .cap) (b .floor) (λ ok e. (passes (thresholdOk threshold) 18 accepted refl e .0, parts b ok .3))
+
+pub limits-sets : (b : Book) (cap floor : ℤ) → Sets b (withSettings b (b .threshold) cap floor) (setLimits b cap floor)
+unfolding setLimits limitsVerdict
+limits-sets b cap floor =
+    sets b (limitsVerdict cap floor) (b .threshold) cap floor (λ ok e. (parts b ok .2, passes (limitsOk cap floor) 19 accepted refl e .0))
+
+-- ---- report
+pub reported-back : (b : Book) (region market : ℕ) → reported b region market .book ≡ b
+reported-back b region market = refl

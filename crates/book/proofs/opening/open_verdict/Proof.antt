@@ -1,0 +1,96 @@
+-- `book::opening::open_verdict` meets its contract. Assumes nothing.
+use mathlib.Core.Path.{_≡_, sym, _∙_}
+use mathlib.Core.Bool.{true, _&&_}
+use mir.Syntax.{w32, w64}
+use mir.Val.{SFits}
+use mir.Facts.{toZ-ofZ}
+use borrow.Author.Tests.{eq-eqb, ne-eqb, not-true, not-false}
+use Rattle.pricing.specs.Holding.{limitsOk}
+use Rattle.book.specs.Validity.{thresholdOk}
+use Rattle.book.proofs.Ways.{settingsOk, ringOk, open-20, open-11, open-18, open-19, open-0}
+use borrow.Author.Needs.{needs, sfits-of}
+use Rattle.book.proofs.opening.open_verdict.Statement.{statement}
+use Rattle.book.proofs.opening.open_verdict.Tie as tie
+
+-- what each test says of the settings and the ring's length
+settings-is : (c : tie.After-parents-ok) → (c .before .before .shape-ok .result && c .parents-ok .result) ≡ settingsOk (c .before .before .before .before .args .settings)
+settings-is c = rw (c .before .before .shape-ok .ensures, c .parents-ok .ensures)
+
+settled : (c : tie.Else1) → settingsOk (c .before .before .before .before .before .args .settings) ≡ true
+settled c = sym (settings-is (c .before)) ∙ not-false _ (c .if1 .left)
+
+sized : (c : tie.Else2) → let a = c .before .before .before .before .before .before .before .args in ringOk (a .settings) (a .ring) ≡ true
+sized c = eq-eqb _ _ (c .if2 .left ∙ c .before .ring-size .ensures)
+
+threshold-is : (c : tie.After-threshold-ok) → c .threshold-ok .result ≡ thresholdOk (c .before .before .before .before .before .before .before .before .before .args .settings .threshold)
+threshold-is c =
+    let s = c .before .before .before .before .before .before .before .before .before .args .settings in
+    let x : SFits w64 (s .threshold) = sfits-of (c .before .struct-told .given .1 .1 .1 .1 .1 .1 .0 .1) in
+    rw (toZ-ofZ x) at (c .threshold-ok .ensures)
+
+reached : (c : tie.Else3) → thresholdOk (c .before .before .before .before .before .before .before .before .before .before .args .settings .threshold) ≡ true
+reached c = sym (threshold-is (c .before)) ∙ not-false _ (c .if3 .left)
+
+limits-is : (c : tie.After-limits-ok) → let s = c .before .before .before .before .before .before .before .before .before .before .before .before .before .args .settings in c .limits-ok .result ≡ limitsOk (s .cap) (s .floor)
+limits-is c =
+    let s = c .before .before .before .before .before .before .before .before .before .before .before .before .before .args .settings in
+    let x : SFits w32 (s .cap) = sfits-of (c .before .before .struct-told2 .given .1 .1 .1 .1 .1 .1 .1 .0 .1) in
+    let y : SFits w32 (s .floor) = sfits-of (c .before .struct-told3 .given .1 .1 .1 .1 .1 .1 .1 .1 .0 .1) in
+    rw (toZ-ofZ x, toZ-ofZ y) at (c .limits-ok .ensures)
+
+shape-ok-requires : tie.Need-shape-ok-requires
+shape-ok-requires c κs = search needs
+
+cast-parents-ok : tie.Need-cast-parents-ok
+cast-parents-ok c = search needs
+
+parents-ok-requires : tie.Need-parents-ok-requires
+parents-ok-requires c κs = search needs
+
+returns : tie.Need-returns
+returns c = open-20 _ _ (sym (settings-is (c .before)) ∙ not-true _ (c .if1 .taken))
+
+ring-size-requires : tie.Need-ring-size-requires
+ring-size-requires c κs = search needs
+
+returns-2 : tie.Need-returns-2
+returns-2 c = open-11 _ _ (settled (c .before .before)) (ne-eqb _ _ (λ e. c .if2 .taken (e ∙ sym (c .before .ring-size .ensures))))
+
+threshold-ok-requires : tie.Need-threshold-ok-requires
+threshold-ok-requires c κs = search needs
+
+returns-3 : tie.Need-returns-3
+returns-3 c =
+    let e = c .before .before .before in
+    open-18 _ _ (settled (e .before .before)) (sized e) (sym (threshold-is (c .before)) ∙ not-true _ (c .if3 .taken))
+
+limits-ok-requires : tie.Need-limits-ok-requires
+limits-ok-requires c κs = search needs
+
+returns-4 : tie.Need-returns-4
+returns-4 c =
+    let e = c .before .before .before .before in
+    let d = e .before .before .before in
+    open-19 _ _ (settled (d .before .before)) (sized d) (reached e) (sym (limits-is (c .before)) ∙ not-true _ (c .if4 .taken))
+
+returns-5 : tie.Need-returns-5
+returns-5 c =
+    let e = c .before .before .before .before in
+    let d = e .before .before .before in
+    open-0 _ _ (settled (d .before .before)) (sized d) (reached e) (sym (limits-is (c .before)) ∙ not-false _ (c .if4 .left))
+
+pub open-verdict-spec : {M : Type 1} → statement M
+open-verdict-spec =
+    tie.close
+    (tie.spec
+    shape-ok-requires
+    cast-parents-ok
+    parents-ok-requires
+    returns
+    ring-size-requires
+    returns-2
+    threshold-ok-requires
+    returns-3
+    limits-ok-requires
+    returns-4
+    returns-5)

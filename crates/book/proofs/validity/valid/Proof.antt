@@ -1,0 +1,75 @@
+-- `book::validity::valid` meets its contract. Assumes nothing.
+use mir.Syntax.{w32, w64}
+use mir.Val.{SFits}
+use mir.Facts.{toZ-ofZ}
+use Rattle.book.proofs.Ways.{valid-by}
+use borrow.Author.Needs.{needs, sfits-of}
+use Rattle.book.proofs.validity.valid.Statement.{statement}
+use Rattle.book.proofs.validity.valid.Tie as tie
+use Rattle.book.proofs.validity.valid.Reads as reads
+use Rattle.book.proofs.validity.valid.Lts as lts
+use Rattle.book.proofs.validity.parents_ok.Reads as parents-ok-reads
+use Rattle.book.proofs.validity.places_ok.Reads as places-ok-reads
+use Rattle.book.proofs.validity.regions_ok.Reads as regions-ok-reads
+use Rattle.book.proofs.validity.shape_ok.Reads as shape-ok-reads
+use Rattle.book.proofs.validity.threshold_ok.Reads as threshold-ok-reads
+use Rattle.pricing.proofs.holding.limits_ok.Reads as limits-ok-reads
+
+-- src/validity.rt:104:19
+cast-regions : tie.Need-cast-regions
+cast-regions c = search needs
+
+-- src/validity.rt:105:9
+shape-ok-requires : tie.Need-shape-ok-requires
+shape-ok-requires c κs = search needs
+
+-- src/validity.rt:106:18
+threshold-ok-requires : tie.Need-threshold-ok-requires
+threshold-ok-requires c κs = search needs
+
+-- src/validity.rt:106:49
+limits-ok-requires : tie.Need-limits-ok-requires
+limits-ok-requires c κs = search needs
+
+-- src/validity.rt:107:9
+regions-ok-requires : tie.Need-regions-ok-requires
+regions-ok-requires c κs = search needs
+
+-- src/validity.rt:108:37
+cast-places-ok : tie.Need-cast-places-ok
+cast-places-ok c = search needs
+
+-- src/validity.rt:108:9
+places-ok-requires : tie.Need-places-ok-requires
+places-ok-requires c κs = search needs
+
+-- src/validity.rt:109:13
+parents-ok-requires : tie.Need-parents-ok-requires
+parents-ok-requires c κs = search needs
+
+-- src/validity.rt:100:1
+returns : tie.Need-returns
+returns c =
+    let p = c .before .before .before .before in
+    let q = p .before .before .before .before .before in
+    let t = q .before .before .before in
+    let b = t .before .before .before .before .args .t1 in
+    let x : SFits w64 (b .threshold) = sfits-of (t .before .struct-told .given .1 .1 .1 .1 .1 .0 .1) in
+    let y : SFits w32 (b .cap) = sfits-of (q .before .before .struct-told2 .given .1 .1 .1 .1 .1 .1 .0 .1) in
+    let z : SFits w32 (b .floor) = sfits-of (q .before .struct-told3 .given .1 .1 .1 .1 .1 .1 .1 .0 .1) in
+    valid-by b _ _ _ _ _ _ (t .before .before .shape-ok .ensures) (c .parents-ok .ensures) (rw (toZ-ofZ x) at (t .threshold-ok .ensures))
+    (rw (toZ-ofZ y, toZ-ofZ z) at (q .limits-ok .ensures)) (p .before .regions-ok .ensures) (c .before .places-ok .ensures)
+
+pub valid-spec : {M : Type 1} → statement M
+valid-spec =
+    tie.close
+    (tie.spec
+    cast-regions
+    shape-ok-requires
+    threshold-ok-requires
+    limits-ok-requires
+    regions-ok-requires
+    cast-places-ok
+    places-ok-requires
+    parents-ok-requires
+    returns)

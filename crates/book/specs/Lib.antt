@@ -1,0 +1,5 @@
+pub mod Record
+pub mod Validity
+pub mod Opening
+pub mod Setting
+pub mod Report

@@ -1,0 +1,103 @@
+// Opening a book.
+use crate::record::Answer;
+use crate::record::Book;
+use crate::record::Refusal;
+use crate::record::Settings;
+use crate::record::closed;
+use crate::validity::parents_ok;
+use crate::validity::shape_ok;
+use crate::validity::threshold_ok;
+ghost use mathlib.Core.Path.{_≡_};
+ghost use lib.IntN.{pos};
+ghost use lib.ListN.{length, replicate};
+ghost use Rattle.book.specs.Record.{ringSize, verdict};
+ghost use Rattle.book.specs.Opening.{openVerdict, fresh, outcome, opened};
+
+pub struct Opened {
+    pub book: Book,
+    pub answer: Answer,
+}
+
+// R × M × W, for any numbers.
+pub fn ring_size(regions: u8, services: u8, window: u16) -> usize
+    ensures { λ r. ⌜ r ≡ ringSize regions services window ⌝ }
+{
+    regions as usize * (services as usize + 1) * window as usize
+}
+
+fn open_verdict(settings: Settings, ring: usize) -> Answer
+    ensures { λ r. ⌜ verdict r ≡ openVerdict settings ring ⌝ }
+{
+    let parents = settings.parents;
+    let shape = shape_ok(
+        settings.regions,
+        settings.services,
+        settings.window,
+        settings.halves,
+        settings.first,
+    );
+    if !(shape & parents_ok(settings.regions as usize, parents)) {
+        return Answer::Refused(Refusal::Setting);
+    }
+    if ring != ring_size(settings.regions, settings.services, settings.window) {
+        return Answer::Refused(Refusal::Length);
+    }
+    if !threshold_ok(settings.threshold) {
+        return Answer::Refused(Refusal::Threshold);
+    }
+    if !pricing::holding::limits_ok(settings.cap, settings.floor) {
+        return Answer::Refused(Refusal::Limits);
+    }
+    Answer::Accepted
+}
+
+fn fresh(settings: Settings) -> Book
+    ensures { λ r. ⌜ r ≡ fresh settings ⌝ }
+{
+    let parents = settings.parents;
+    Book {
+        regions: settings.regions,
+        services: settings.services,
+        window: settings.window,
+        halves: settings.halves,
+        parents,
+        threshold: settings.threshold,
+        cap: settings.cap,
+        floor: settings.floor,
+        entries: 0,
+        position: settings.first,
+        counts: [0; 8],
+        nexts: [0; 8],
+        sums: [0; 88],
+        marks: [0; 88],
+    }
+}
+
+fn zero(ring: &mut [i32])
+    ensures { λ _. ⌜ now (ring .exit) ≡ replicate (length (now (ring .entry))) (pos 0) ⌝ }
+{
+    let mut i: usize = 0;
+    while i < ring.len() {
+        ring[i] = 0;
+        i += 1;
+    }
+}
+
+// Opens a book over a ring of exactly R × M × W places.
+pub fn open(settings: Settings, ring: &mut [i32]) -> Opened
+    ensures { λ r. ⌜ outcome r (now (ring .exit)) ≡ opened settings (now (ring .entry)) ⌝ }
+{
+    let answer = open_verdict(settings, ring.len());
+    let none = closed();
+    let first = fresh(settings);
+    match answer {
+        Answer::Refused(_) => Opened { book: none, answer },
+        Answer::Accepted => {
+            zero(ring);
+            Opened {
+                book: first,
+                answer,
+            }
+        }
+    }
+}

@@ -1,0 +1,85 @@
+// The book record, the settings that it is opened with, and the refusals of every call on a book.
+ghost use mathlib.Core.Path.{_≡_};
+ghost use Rattle.book.specs.Record.{closed};
+
+// A book by value. The sum and the period mark of a market stand at 11 × region + market; a region's count and next place
+// serve all its markets. `position` is the next entry's.
+pub struct Book {
+    pub regions: u8,
+    pub services: u8,
+    pub window: u16,
+    pub halves: u8,
+    pub parents: [u8; 8],
+    pub threshold: i64,
+    pub cap: i32,
+    pub floor: i32,
+    pub entries: u32,
+    pub position: u16,
+    pub counts: [u16; 8],
+    pub nexts: [u16; 8],
+    pub sums: [i64; 88],
+    pub marks: [u8; 88],
+}
+
+// What a book is opened with. `first` is the first position.
+pub struct Settings {
+    pub regions: u8,
+    pub services: u8,
+    pub window: u16,
+    pub halves: u8,
+    pub first: u16,
+    pub parents: [u8; 8],
+    pub threshold: i64,
+    pub cap: i32,
+    pub floor: i32,
+}
+
+// A case for each refusal of a call on a book, with its place where it has one.
+pub enum Refusal {
+    Invalid,
+    Length,
+    Full,
+    Number,
+    Kind,
+    Mark(usize),
+    Price(usize),
+    Factor(usize),
+    Threshold,
+    Limits,
+    Setting,
+    Market,
+    Sums,
+    Buffer,
+    ImageLength,
+    ImageKind,
+    ImageField,
+    ImageTotal,
+}
+
+// What a call that answers nothing else says.
+pub enum Answer {
+    Accepted,
+    Refused(Refusal),
+}
+
+// The closed book: all zero.
+pub fn closed() -> Book
+    ensures { λ r. ⌜ r ≡ closed ⌝ }
+{
+    Book {
+        regions: 0,
+        services: 0,
+        window: 0,
+        halves: 0,
+        parents: [0; 8],
+        threshold: 0,
+        cap: 0,
+        floor: 0,
+        entries: 0,
+        position: 0,
+        counts: [0; 8],
+        nexts: [0; 8],
+        sums: [0; 88],
+        marks: [0; 88],
+    }
+}

@@ -1,0 +1,122 @@
+// Rule 10: whether a book is one that a call may take. The loops read numbers and lent arrays, never the whole book.
+use crate::record::Book;
+ghost use mathlib.Core.Path.{_≡_};
+ghost use mathlib.Core.Bool.{Bool};
+ghost use Prim.Native.Nat.{_<_};
+ghost use Rattle.book.specs.Validity.{parentOk, parentsOk, shapeOk, thresholdOk, regionOk, placeOk, usedPlace, regionsOk, placesOk, valid};
+
+fn parent_ok(regions: usize, r: usize, parent: usize) -> bool
+    ensures { λ x. ⌜ x ≡ parentOk regions r parent ⌝ }
+{
+    (parent == 255) | ((r < regions) & (parent < r))
+}
+
+pub fn parents_ok(regions: usize, parents: [u8; 8]) -> bool
+    ensures { λ x. ⌜ x ≡ parentsOk regions parents ⌝ }
+{
+    let mut ok = true;
+    let mut r: usize = 0;
+    while r < 8 {
+        ok = ok & parent_ok(regions, r, parents[r] as usize);
+        r += 1;
+    }
+    ok
+}
+
+pub fn shape_ok(regions: u8, services: u8, window: u16, halves: u8, position: u16) -> bool
+    ensures { λ x. ⌜ x ≡ shapeOk regions services window halves position ⌝ }
+{
+    (1 <= regions)
+        & (regions <= 8)
+        & (services <= 10)
+        & (1 <= window)
+        & (window <= 2016)
+        & (1 <= halves)
+        & (halves <= 48)
+        & ((position as usize) < 6 * halves as usize)
+}
+
+pub fn threshold_ok(threshold: i64) -> bool
+    ensures { λ x. ⌜ x ≡ thresholdOk threshold ⌝ }
+{
+    (1 <= threshold) & (threshold <= 100000000000)
+}
+
+fn region_ok(used: bool, window: u16, entries: u32, count: u16, next: u16) -> bool
+    ensures { λ x. ⌜ x ≡ regionOk used window entries count next ⌝ }
+{
+    (used
+        & ((count <= window)
+            & (count as u32 <= entries)
+            & (next < window)
+            & ((count == window) | (next == count))))
+        | (!used & ((count == 0) & (next == 0)))
+}
+
+fn place_ok(used: bool, sum: i64, mark: u8) -> bool
+    ensures { λ x. ⌜ x ≡ placeOk used sum mark ⌝ }
+{
+    (used & ((-20160000000 <= sum) & (sum <= 20160000000) & (mark <= 1)))
+        | (!used & ((0 <= sum) & (sum <= 0) & (mark == 0)))
+}
+
+fn used_place(regions: usize, services: usize, k: usize) -> bool
+    ensures { λ x. ⌜ x ≡ usedPlace regions services k ⌝ }
+{
+    (k / 11 < regions) & (k % 11 <= services)
+}
+
+fn regions_ok<'a>(
+    regions: usize,
+    window: u16,
+    entries: u32,
+    counts: &'a [u16; 8],
+    nexts: &'a [u16; 8],
+) -> bool
+    ensures { λ x. ⌜ x ≡ regionsOk regions window entries (now (counts .entry)) (now (nexts .entry)) ⌝ }
+{
+    let mut ok = true;
+    let mut r: usize = 0;
+    while r < 8 {
+        ok = ok & region_ok(r < regions, window, entries, counts[r], nexts[r]);
+        r += 1;
+    }
+    ok
+}
+
+fn places_ok<'a>(regions: usize, services: usize, sums: &'a [i64; 88], marks: &'a [u8; 88]) -> bool
+    ensures { λ x. ⌜ x ≡ placesOk regions services (now (sums .entry)) (now (marks .entry)) ⌝ }
+{
+    let mut ok = true;
+    let mut k: usize = 0;
+    while k < 88 {
+        ok = ok & place_ok(used_place(regions, services, k), sums[k], marks[k]);
+        k += 1;
+    }
+    ok
+}
+
+// Whether a call may take the book: any value of the record may be lent.
+pub fn valid(book: Book) -> bool
+    ensures { λ x. ⌜ x ≡ valid book ⌝ }
+{
+    let parents = book.parents;
+    let regions = book.regions as usize;
+    let shape = shape_ok(
+        book.regions,
+        book.services,
+        book.window,
+        book.halves,
+        book.position,
+    );
+    let limits = threshold_ok(book.threshold) & pricing::holding::limits_ok(book.cap, book.floor);
+    let counts = regions_ok(
+        regions,
+        book.window,
+        book.entries,
+        &book.counts,
+        &book.nexts,
+    );
+    let places = places_ok(regions, book.services as usize, &book.sums, &book.marks);
+    shape & parents_ok(regions, parents) & limits & (book.entries <= 10000000) & counts & places
+}

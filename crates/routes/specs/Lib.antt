@@ -1,0 +1,4 @@
+pub mod Limits
+pub mod Links
+pub mod Routes
+pub mod Search
