@@ -1,0 +1,10 @@
+// Checks the worked cases of document 01 that are not marked (*), and more vectors, against the stored output.
+mod amounts;
+mod indexes;
+mod schedules;
+
+fn main() {
+    amounts::all();
+    indexes::all();
+    schedules::all();
+}
