@@ -1,13 +1,12 @@
 -- A book that an accepted call hands back is accepted by rule 10, a refused call hands back the lent book, and a setting moves
 -- no report. Assumes nothing.
-use mathlib.Core.Path.{_≡_, refl, sym, ap, _∙_}
-use mathlib.Core.Bool.{Bool, true, false, not, _&&_}
+use mathlib.Core.Path.{_≡_, refl, sym}
+use mathlib.Core.Bool.{Bool, true, false, not}
 use mathlib.Core.List.{List}
 use mathlib.Core.Logic.{inr}
-use Prim.Native.Nat.{ℕ, _<_, _≤_}
+use Prim.Native.Nat.{ℕ, _<_}
 use native.Mathlib.Omega.{arith}
 use borrow.Author.Tests.{eqb-true}
-use lib.Dec.{eqb}
 use lib.IntN.{ℤ, pos}
 use lib.ListN.{length, replicate, getD, getD-replicate}
 use Rattle.laws.specs.Base.{pick}
@@ -20,7 +19,7 @@ use Rattle.book.specs.Record.{closed, ringSize, isAccepted}
 use Rattle.book.specs.Validity.{parentOk, shapeOk, parentsOk, thresholdOk, valid}
 use Rattle.book.specs.Opening.{openVerdict, fresh, opened}
 use Rattle.book.specs.Setting.{thresholdVerdict, limitsVerdict, withSettings, Outcome, changed, setThreshold, setLimits}
-use Rattle.book.specs.Report.{reportOf, reportVerdict, reported}
+use Rattle.book.specs.Report.{reportOf, reported}
 use Rattle.laws.proofs.Lists.{all-at}
 use Rattle.book.proofs.Validities.{parts, shape-is, parent-is, Valid, is-valid}
 use Rattle.book.proofs.Ways.{settingsOk, ringOk}
@@ -29,7 +28,7 @@ use Rattle.book.proofs.Ways.{settingsOk, ringOk}
 never {ℓ} : {X : Type ℓ} (t : Bool) → t ≡ true → t ≡ false → X
 never t p q = let z : _≡_ {A = ℕ} 0 1 = cc in absurd (omega arith)
 
--- where the next choice is an acceptance, its test failed
+-- what is accepted has passed the test before it
 passes : (t : Bool) (n : ℕ) (v : Verdict) → isAccepted (refused n) ≡ false → isAccepted (pick (not t) (refused n) v) ≡ true → (t ≡ true) × (isAccepted v ≡ true)
 passes true n v z e = (refl, e)
 passes false n v z e = never (isAccepted (refused n)) e z

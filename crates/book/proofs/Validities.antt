@@ -1,8 +1,9 @@
 -- What rule 10 says of a book, field by field: `Valid b` holds exactly where `valid b` is true. Assumes nothing.
 use mathlib.Core.Path.{_≡_, refl}
-use mathlib.Core.Bool.{Bool, true, false, not, _&&_, _||_}
+use mathlib.Core.Bool.{Bool, true, false, _&&_, _||_}
 use mathlib.Core.Logic.{_⊎_, inl, inr, ⊎-elim}
 use Prim.Native.Nat.{ℕ, _+_, _*_, _/_, _%_, _≤_, _<_}
+use native.Mathlib.Nat.{mul-le-mul}
 use native.Mathlib.Omega.{arith}
 use borrow.Author.Tests.{leb-true, ltb-true, eqb-true, leb-false, ltb-false, le-leb, lt-ltb, le-ltb, lt-leb, eq-eqb}
 use lib.Dec.{leb, ltb, eqb}
@@ -14,7 +15,7 @@ use Rattle.laws.proofs.Integers.{up, dn, abs-parts, test-le, le-test, same}
 use Rattle.laws.proofs.Lists.{flat-div, flat-mod}
 use Rattle.pricing.specs.Holding.{limitsOk}
 use Rattle.book.specs.declared.record.Book.{Book}
-use Rattle.book.specs.Record.{placeOf}
+use Rattle.book.specs.Record.{placeOf, tableSize, ringSize}
 use Rattle.book.specs.Validity.{parentOk, parentsOk, shapeOk, thresholdOk, regionOk, placeOk, usedPlace, regionsOk, placesOk, valid}
 use Rattle.laws.proofs.Lists.{all-at, at-all}
 
@@ -269,3 +270,10 @@ module _ (b : Book) (v : Valid b) (r m : ℕ) (h : r < b .regions) (l : m ≤ b 
 
   pub mark-at : getD (b .marks) (placeOf r m) 0 ≤ 1
   mark-at = v .mark (placeOf r m) place-below (omega (arith, here .0)) (omega (arith, here .1))
+
+-- the lent slices are small
+pub sizes-small : (b : Book) → Valid b → (tableSize (b .regions) (b .services) ≤ 88) × (ringSize (b .regions) (b .services) (b .window) ≤ 177408)
+sizes-small b v =
+    let m : b .services + 1 ≤ 11 = omega (arith, v .services) in
+    let t : tableSize (b .regions) (b .services) ≤ 88 = mul-le-mul (v .regions) m in
+    (t, mul-le-mul t (v .window))

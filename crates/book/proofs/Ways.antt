@@ -1,12 +1,11 @@
 -- The outcome of each call, by the way it takes: what its definition comes to where its tests are decided. Assumes nothing.
-use mathlib.Core.Path.{_≡_, refl, sym, ap, _∙_}
-use mathlib.Core.Bool.{Bool, true, false, not, _&&_}
+use mathlib.Core.Path.{_≡_, refl}
+use mathlib.Core.Bool.{Bool, true, false, _&&_}
 use mathlib.Core.List.{List}
 use Prim.Native.Nat.{ℕ}
 use lib.IntN.{ℤ, pos}
 use lib.ListN.{length, replicate}
 use lib.Dec.{leb, eqb}
-use Rattle.laws.specs.Base.{pick}
 use Rattle.pricing.specs.Verdict.{accepted, refused}
 use Rattle.pricing.specs.Holding.{limitsOk}
 use Rattle.book.specs.declared.record.Book.{Book}
@@ -17,12 +16,14 @@ use Rattle.book.specs.declared.record.Answer.{Answer}
 use Rattle.book.specs.declared.record.Answer.the-variants.{Accepted, Refused}
 use Rattle.book.specs.Record.{closed, ringSize, verdictOf, verdict, isAccepted}
 use Rattle.book.specs.Opening.{openVerdict, fresh, outcome, opened}
+use Rattle.book.specs.Setting.{Outcome, thresholdVerdict, limitsVerdict, withSettings, setThreshold, setLimits}
 use Rattle.book.specs.Validity.{shapeOk, parentsOk, thresholdOk, regionsOk, placesOk, valid}
 
 and-assoc : (x y z : Bool) → (x && (y && z)) ≡ ((x && y) && z)
 and-assoc true y z = refl
 and-assoc false y z = refl
 
+-- rule 10 of its parts, as the code groups them
 pub valid-by : (b : Book) (s p t l c k : Bool)
     → s ≡ shapeOk (b .regions) (b .services) (b .window) (b .halves) (b .position)
     → p ≡ parentsOk (b .regions) (b .parents)
@@ -95,3 +96,14 @@ module _ (s : Settings) (ring : List ℤ) (a : Answer) (h : verdict a ≡ openVe
   opened-accepted ring′ e q z =
       let n : isAccepted (openVerdict s (length ring)) ≡ true = rw (← h, e) refl in
       rw (n, e, q, z)
+
+-- ---- settings: an accepted one, of numbers that are those lent
+pub threshold-0 : (b : Book) (threshold x : ℤ) → valid b ≡ true → thresholdOk threshold ≡ true → x ≡ threshold
+    → _≡_ {A = Outcome} (record { verdict = accepted; book = withSettings b x (b .cap) (b .floor) }) (setThreshold b threshold)
+unfolding setThreshold thresholdVerdict
+threshold-0 b threshold x v t e = rw (v, t, e)
+
+pub limits-0 : (b : Book) (cap floor x y : ℤ) → valid b ≡ true → limitsOk cap floor ≡ true → x ≡ cap → y ≡ floor
+    → _≡_ {A = Outcome} (record { verdict = accepted; book = withSettings b (b .threshold) x y }) (setLimits b cap floor)
+unfolding setLimits limitsVerdict
+limits-0 b cap floor x y v l d e = rw (v, l, d, e)

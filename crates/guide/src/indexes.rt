@@ -1,5 +1,7 @@
 // Indexed amounts: rounding at the half, last year's amount, the ranges.
-use pricing::indexing::{Answer, Quarters, indexed};
+use pricing::indexing::Answer;
+use pricing::indexing::Quarters;
+use pricing::indexing::indexed;
 
 fn quarters(q: u32) -> Quarters {
     Quarters {

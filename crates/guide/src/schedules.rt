@@ -1,5 +1,7 @@
 // Schedules of one half-hour a day: 28 days of six prices.
-use pricing::schedule::{Answer, Making, schedule};
+use pricing::schedule::Answer;
+use pricing::schedule::Making;
+use pricing::schedule::schedule;
 use pricing::text::amount_text;
 
 fn show_price(price: i32) {

@@ -8,7 +8,7 @@ use borrow.Author.Needs.{needs}
 use Rattle.book.proofs.opening.ring_size.Statement.{statement}
 use Rattle.book.proofs.opening.ring_size.Tie as tie
 
--- the product of the largest numbers of these widths
+-- numbers of these widths have products that fit
 sizes : (c : tie.Start) → let a = c .args in (a .regions * (a .services + 1) ≤ 65280) × (a .regions * (a .services + 1) * a .window ≤ 4278124800)
 sizes c =
     let a = c .args in

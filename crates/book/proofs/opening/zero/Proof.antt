@@ -1,4 +1,4 @@
--- `book::opening::zero` meets its contract. Assumes nothing.
+-- `book::opening::zero` meets its contract. The loop's invariant: zeros up to `i`, then the ring as it was. Assumes nothing.
 use mathlib.Core.Path.{_≡_, refl, _∙_}
 use Prim.Native.Nat.{_≤_, _-_}
 use native.Mathlib.Omega.{arith}

@@ -22,7 +22,7 @@ use Rattle.book.proofs.report.report.Tie as tie
 ok : (c : tie.Else1) → valid (c .before .before .args .t1) ≡ true
 ok c = sym (c .before .valid .ensures) ∙ not-false _ (c .if1 .left)
 
--- a market of the book: its region, its place, and the region's count
+-- a market of the book has its place and its region within the arrays
 inside : (c : tie.Then2) → let a = c .before .before .before .args in (placeOf (a .region) (a .market) < 88) × (a .region < 8)
 inside c =
     let a = c .before .before .before .args in

@@ -6,6 +6,7 @@ use borrow.Author.Tests.{not-true, not-false}
 use Rattle.pricing.specs.Holding.{limitsOk}
 use Rattle.book.specs.Validity.{valid}
 use Rattle.book.specs.Setting.{setLimits, limitsVerdict}
+use Rattle.book.proofs.Ways.{limits-0}
 use borrow.Author.Needs.{needs}
 use Rattle.book.proofs.setting.set_limits.Statement.{statement}
 use Rattle.book.proofs.setting.set_limits.Tie as tie
@@ -31,10 +32,10 @@ unfolding setLimits limitsVerdict
 returns-2 c = rw (ok (c .before .before), sym (limits-is (c .before)) ∙ not-true _ (c .if2 .taken))
 
 returns-3 : tie.Need-returns-3
-unfolding setLimits limitsVerdict
 returns-3 c =
     let s = c .before .before .before .before in
-    rw (ok (c .before .before), sym (limits-is (c .before)) ∙ not-false _ (c .if2 .left), toZ-ofZ (s .fits .cap), toZ-ofZ (s .fits .floor))
+    let a = s .args in
+    limits-0 (a .book) (a .cap) (a .floor) _ _ (ok (c .before .before)) (sym (limits-is (c .before)) ∙ not-false _ (c .if2 .left)) (toZ-ofZ (s .fits .cap)) (toZ-ofZ (s .fits .floor))
 
 pub set-limits-spec : {M : Type 1} → statement M
 set-limits-spec =

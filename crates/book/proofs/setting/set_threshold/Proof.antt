@@ -5,6 +5,7 @@ use mir.Facts.{toZ-ofZ}
 use borrow.Author.Tests.{not-true, not-false}
 use Rattle.book.specs.Validity.{valid, thresholdOk}
 use Rattle.book.specs.Setting.{setThreshold, thresholdVerdict}
+use Rattle.book.proofs.Ways.{threshold-0}
 use borrow.Author.Needs.{needs}
 use Rattle.book.proofs.setting.set_threshold.Statement.{statement}
 use Rattle.book.proofs.setting.set_threshold.Tie as tie
@@ -30,10 +31,10 @@ unfolding setThreshold thresholdVerdict
 returns-2 c = rw (ok (c .before .before), sym (threshold-is (c .before)) ∙ not-true _ (c .if2 .taken))
 
 returns-3 : tie.Need-returns-3
-unfolding setThreshold thresholdVerdict
 returns-3 c =
     let s = c .before .before .before .before in
-    rw (ok (c .before .before), sym (threshold-is (c .before)) ∙ not-false _ (c .if2 .left), toZ-ofZ (s .fits .threshold))
+    let a = s .args in
+    threshold-0 (a .book) (a .threshold) _ (ok (c .before .before)) (sym (threshold-is (c .before)) ∙ not-false _ (c .if2 .left)) (toZ-ofZ (s .fits .threshold))
 
 pub set-threshold-spec : {M : Type 1} → statement M
 set-threshold-spec =

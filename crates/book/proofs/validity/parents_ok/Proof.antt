@@ -1,4 +1,4 @@
--- `book::validity::parents_ok` meets its contract. The loop's invariant: the regions passed have good parents, or not all. Assumes nothing.
+-- `book::validity::parents_ok` meets its contract. The loop's invariant: `ok` is the test of the regions passed. Assumes nothing.
 use mathlib.Core.Path.{_≡_}
 use Prim.Native.Nat.{_≤_, _-_}
 use native.Mathlib.Omega.{arith}

@@ -1,4 +1,4 @@
--- `book::validity::places_ok` meets its contract. Assumes nothing.
+-- `book::validity::places_ok` meets its contract. The loop's invariant: `ok` is the test of the places passed. Assumes nothing.
 use mathlib.Core.Path.{_≡_}
 use Prim.Native.Nat.{_≤_, _-_}
 use native.Mathlib.Omega.{arith}

@@ -1,4 +1,4 @@
--- `book::validity::regions_ok` meets its contract. Assumes nothing.
+-- `book::validity::regions_ok` meets its contract. The loop's invariant: `ok` is the test of the regions passed. Assumes nothing.
 use mathlib.Core.Path.{_≡_}
 use Prim.Native.Nat.{_≤_, _-_}
 use native.Mathlib.Omega.{arith}

@@ -6,48 +6,31 @@ use Rattle.book.proofs.Ways.{valid-by}
 use borrow.Author.Needs.{needs, sfits-of}
 use Rattle.book.proofs.validity.valid.Statement.{statement}
 use Rattle.book.proofs.validity.valid.Tie as tie
-use Rattle.book.proofs.validity.valid.Reads as reads
-use Rattle.book.proofs.validity.valid.Lts as lts
-use Rattle.book.proofs.validity.parents_ok.Reads as parents-ok-reads
-use Rattle.book.proofs.validity.places_ok.Reads as places-ok-reads
-use Rattle.book.proofs.validity.regions_ok.Reads as regions-ok-reads
-use Rattle.book.proofs.validity.shape_ok.Reads as shape-ok-reads
-use Rattle.book.proofs.validity.threshold_ok.Reads as threshold-ok-reads
-use Rattle.pricing.proofs.holding.limits_ok.Reads as limits-ok-reads
 
--- src/validity.rt:104:19
 cast-regions : tie.Need-cast-regions
 cast-regions c = search needs
 
--- src/validity.rt:105:9
 shape-ok-requires : tie.Need-shape-ok-requires
 shape-ok-requires c κs = search needs
 
--- src/validity.rt:106:18
 threshold-ok-requires : tie.Need-threshold-ok-requires
 threshold-ok-requires c κs = search needs
 
--- src/validity.rt:106:49
 limits-ok-requires : tie.Need-limits-ok-requires
 limits-ok-requires c κs = search needs
 
--- src/validity.rt:107:9
 regions-ok-requires : tie.Need-regions-ok-requires
 regions-ok-requires c κs = search needs
 
--- src/validity.rt:108:37
 cast-places-ok : tie.Need-cast-places-ok
 cast-places-ok c = search needs
 
--- src/validity.rt:108:9
 places-ok-requires : tie.Need-places-ok-requires
 places-ok-requires c κs = search needs
 
--- src/validity.rt:109:13
 parents-ok-requires : tie.Need-parents-ok-requires
 parents-ok-requires c κs = search needs
 
--- src/validity.rt:100:1
 returns : tie.Need-returns
 returns c =
     let p = c .before .before .before .before in
