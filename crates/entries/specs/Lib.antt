@@ -1,0 +1,4 @@
+pub mod Checking
+pub mod Windows
+pub mod Periods
+pub mod Entering

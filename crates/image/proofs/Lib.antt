@@ -1,0 +1,15 @@
+pub mod Lists
+pub mod Words
+pub mod Readings
+pub mod Markets
+pub mod Heads
+pub mod Typed
+pub mod Books
+pub mod Verdicts
+pub mod Prices
+pub mod Anew
+pub mod There
+pub mod Back
+pub mod Sameness
+pub mod Numbers
+pub mod RoundTrips

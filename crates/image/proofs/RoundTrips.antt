@@ -1,0 +1,172 @@
+-- The round trips of an image: the statements to read first, each with its words. `There` and `Back` have the proofs. A call is
+-- accepted where its verdict's number is 0. Assumes nothing.
+use mathlib.Core.Path.{_≡_, refl, sym, _∙_}
+use mathlib.Core.Bool.{true, false}
+use mathlib.Core.List.{List, [], _∷_, _++_}
+use mathlib.Core.Logic.{_⊎_}
+use Prim.Native.Nat.{ℕ, _≤_, _<_}
+use lib.Dec.{eqb}
+use lib.IntN.{ℤ}
+use lib.ListN.{length, getD, take, drop}
+use lib.Seq.{take-at}
+use Rattle.laws.proofs.Lists.{length-run}
+use Rattle.pricing.specs.Verdict.{accepted, refused}
+use Rattle.book.specs.declared.record.Book.{Book}
+use Rattle.book.specs.Record.{closed, ringSize, isAccepted}
+use Rattle.book.specs.Validity.{valid}
+use Rattle.book.specs.Report.{reportOf}
+use Rattle.book.proofs.Validities.{is-valid}
+use Rattle.image.specs.Counted.{countAt, inOrder}
+use Rattle.image.specs.Layout.{lengthOf, headFrom, imageOf}
+use Rattle.image.specs.Storing.{pricesOk, stored}
+use Rattle.image.specs.Loading.{ringOf, loadVerdict, bookFrom, ringFrom, loaded, checked}
+use Rattle.image.specs.Same.{Same}
+use Rattle.image.proofs.Typed.{Typed}
+use Rattle.image.proofs.Books.{anewWith}
+use Rattle.image.proofs.Markets.{count-of}
+use Rattle.image.proofs.Verdicts.{StoreOk, LoadOk, loaded-ok, ok-loaded, stored-ok, ok-stored, other-ring}
+use Rattle.image.proofs.Prices.{laid, length-laid}
+use Rattle.image.proofs.Anew.{order-anew, valid-anew}
+use Rattle.image.proofs.There.{valid-from, prices-from, ring-size-from, typed-from, length-from, store-from, there}
+use Rattle.image.proofs.Back.{length-image, load-back, book-back, ring-back, head-is}
+use Rattle.image.proofs.Sameness as sameness
+use Rattle.image.proofs.Numbers as numbers
+use Rattle.image.proofs.Numbers.{OneOf}
+
+-- ---- 1. an image that was stored loads to the same book
+-- a book as loading leaves it: the book, but that the next place of every region is that of a window whose oldest price is
+-- first (its sums are the stored book's own: 22 says that they are the totals of the counted prices)
+abbrev pub anew : Book → Book
+anew b = anewWith b (b .sums)
+
+-- and its ring: window after window the counted prices, oldest first, and zeros behind
+abbrev pub relaid : Book → List ℤ → List ℤ
+relaid b ring = laid b (inOrder b ring)
+
+module _ (b : Book) (ring : List ℤ) (buffer : List ℕ) (t : Typed b) (e : isAccepted (stored b ring buffer .verdict) ≡ true) where
+  ok : StoreOk b ring (length buffer)
+  ok = stored-ok b ring buffer e
+
+  -- the image's bytes are the first of the buffer, as many as the answer says
+  pub image-bytes : take (lengthOf b) (stored b ring buffer .buffer) ≡ imageOf b ring
+  image-bytes = rw (ok-stored b ring buffer ok) (take-at (imageOf b ring) (drop (lengthOf b) buffer) (lengthOf b) (length-image b ring (length buffer) t ok))
+
+  pub image-length : stored b ring buffer .length ≡ lengthOf b
+  image-length = rw (ok-stored b ring buffer ok)
+
+  -- A book whose store is accepted, loaded from exactly its image's bytes into any ring of its length: accepted, and the book and
+  -- the ring are those two, whatever the ring held
+  pub load-of-store : (g : List ℤ) → length g ≡ ringSize (b .regions) (b .services) (b .window)
+      → loaded (take (lengthOf b) (stored b ring buffer .buffer)) g ≡ record { verdict = accepted; book = anew b; ring = relaid b ring }
+  load-of-store g h =
+      let n = length buffer in
+      rw (image-bytes, ok-loaded (imageOf b ring) g (load-back b ring n t ok (length g) h), book-back b ring n t ok, ring-back b ring n t ok)
+
+  -- the same from as many bytes as the answer says
+  pub reload : (g : List ℤ) → length g ≡ ringSize (b .regions) (b .services) (b .window)
+      → loaded (take (stored b ring buffer .length) (stored b ring buffer .buffer)) g ≡ record { verdict = accepted; book = anew b; ring = relaid b ring }
+  reload g h = rw image-length (load-of-store g h)
+
+  -- into a ring of another length: 11
+  pub load-other-ring : (g : List ℤ) → eqb (length g) (ringSize (b .regions) (b .services) (b .window)) ≡ false
+      → loaded (take (lengthOf b) (stored b ring buffer .buffer)) g ≡ record { verdict = refused 11; book = closed; ring = g }
+  load-other-ring g h =
+      let n = length buffer in
+      rw image-bytes
+      (other-ring (imageOf b ring) g (load-back b ring n t ok (ringSize (b .regions) (b .services) (b .window)) refl .head) (rw (head-is b ring n t ok) h))
+
+  -- and that is the same book
+  pub anew-same : Same b ring (anew b) (relaid b ring)
+  anew-same = record {
+    regions = refl;
+    services = refl;
+    window = refl;
+    halves = refl;
+    parents = refl;
+    threshold = refl;
+    cap = refl;
+    floor = refl;
+    entries = refl;
+    position = refl;
+    counts = refl;
+    sums = refl;
+    marks = refl;
+    prices = λ q h. sym (order-anew b (ok .book) (b .sums) (inOrder b ring) (λ p k. length-run _ (countAt b p) 0) q h);
+  }
+
+  -- which rule 10 accepts, and whose arrays and ring have their lengths
+  pub anew-valid : valid (anew b) ≡ true
+  anew-valid = is-valid (anew b) (valid-anew b (ok .book) (b .sums) (ok .book .sum) (ok .book .no-sum))
+
+  pub anew-typed : Typed (anew b)
+  anew-typed = record { parents = t .parents; counts = t .counts; sums = t .sums; marks = t .marks }
+
+  pub relaid-length : length (relaid b ring) ≡ ringSize (b .regions) (b .services) (b .window)
+  relaid-length = length-laid b (inOrder b ring) (λ q h. length-run _ (countAt b q) 0) (count-of b (ok .book))
+
+  pub stored-loads-same : (g : List ℤ) → length g ≡ ringSize (b .regions) (b .services) (b .window)
+      → Same b ring (loaded (take (lengthOf b) (stored b ring buffer .buffer)) g .book) (loaded (take (lengthOf b) (stored b ring buffer .buffer)) g .ring)
+  stored-loads-same g h = rw (load-of-store g h) anew-same
+
+-- ---- 2. and 3., of bytes whose load into some ring is accepted
+module _ (bytes : List ℕ) (ring : List ℤ) (e : isAccepted (loaded bytes ring .verdict) ≡ true) where
+  good : LoadOk bytes (length ring)
+  good = loaded-ok bytes ring e
+
+  pub loaded-is : loaded bytes ring ≡ record { verdict = accepted; book = bookFrom bytes; ring = ringFrom bytes }
+  loaded-is = ok-loaded bytes ring good
+
+  -- 2. an image that loads stores to the same bytes: into every buffer that is long enough, and the bytes after it stay
+  pub store-of-load : ((i : ℕ) → getD bytes i 0 < 256) → (buffer : List ℕ) → length bytes ≤ length buffer
+      → stored (bookFrom bytes) (ringFrom bytes) buffer
+      ≡ record { verdict = accepted; length = length bytes; book = bookFrom bytes; buffer = bytes ++ drop (length bytes) buffer }
+  store-of-load small buffer h =
+      ok-stored (bookFrom bytes) (ringFrom bytes) buffer (store-from bytes (length ring) good (length buffer) h)
+      ∙ rw (length-from bytes (length ring) good, there bytes (length ring) good small)
+
+  -- 3. a book just loaded is accepted by rule 10, its ring has its length, it never meets 22, and its arrays have their lengths
+  pub loaded-valid : valid (bookFrom bytes) ≡ true
+  loaded-valid = is-valid (bookFrom bytes) (valid-from bytes (length ring) good)
+
+  pub loaded-ring : length (ringFrom bytes) ≡ ringSize (bookFrom bytes .regions) (bookFrom bytes .services) (bookFrom bytes .window)
+  loaded-ring = ring-size-from bytes (length ring) good
+
+  pub loaded-prices : pricesOk (bookFrom bytes) (ringFrom bytes) ≡ true
+  loaded-prices = prices-from bytes (length ring) good
+
+  pub loaded-typed : Typed (bookFrom bytes)
+  loaded-typed = typed-from bytes (length ring) good
+
+-- ---- 4. "Two books are the same if ..": an equivalence, and same books, if rule 10 accepts both, are told apart by no report
+-- and by no store (but for the book that it hands back)
+pub same-reflexive : (b : Book) (ring : List ℤ) → Same b ring b ring
+same-reflexive = sameness.same-refl
+
+module _ {a b : Book} {r s : List ℤ} (p : Same a r b s) where
+  pub same-symmetric : Same b s a r
+  same-symmetric = sameness.same-sym p
+
+  pub same-transitive : {c : Book} {t : List ℤ} → Same b s c t → Same a r c t
+  same-transitive = sameness.same-trans p
+
+  module _ (v : valid a ≡ true) (w : valid b ≡ true) where
+    pub same-reports : (region market : ℕ) → reportOf a region market ≡ reportOf b region market
+    same-reports = sameness.same-report p v w
+
+    pub same-stores : length r ≡ ringSize (a .regions) (a .services) (a .window) → length s ≡ ringSize (b .regions) (b .services) (b .window) → (buffer : List ℕ)
+        → stored b s buffer ≡ record { verdict = stored a r buffer .verdict; length = stored a r buffer .length; book = b; buffer = stored a r buffer .buffer }
+    same-stores = sameness.same-stored p v w
+
+-- ---- 5. the image check: "0 or the load's number, 11 left out"
+-- it is the load's number with every ring of the right length; with any ring the load's number is it or 11
+pub check-is-load : (bytes : List ℕ) (n : ℕ) → n ≡ ringOf (headFrom bytes) → checked bytes ≡ loadVerdict bytes n .number
+check-is-load = numbers.check-is
+
+pub load-is-check : (bytes : List ℕ) (n : ℕ) → (loadVerdict bytes n .number ≡ checked bytes) ⊎ (loadVerdict bytes n .number ≡ 11)
+load-is-check = numbers.check-or-11
+
+pub load-numbers : (bytes : List ℕ) (n : ℕ) → OneOf (loadVerdict bytes n .number) (24 ∷ 25 ∷ 26 ∷ 27 ∷ 11 ∷ 16 ∷ 0 ∷ [])
+load-numbers = numbers.load-number
+
+pub check-numbers : (bytes : List ℕ) → OneOf (checked bytes) (24 ∷ 25 ∷ 26 ∷ 27 ∷ 16 ∷ 0 ∷ [])
+check-numbers = numbers.check-number

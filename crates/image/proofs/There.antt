@@ -1,0 +1,144 @@
+-- Bytes that load: the book and the ring read from them are accepted by rule 10 and by 22, and their image is the bytes. Assumes nothing.
+use mathlib.Core.Path.{_≡_, refl, sym, ap, ap₂, _∙_}
+use mathlib.Core.Bool.{true}
+use mathlib.Core.List.{List, _++_}
+use Prim.Native.Nat.{ℕ, _+_, _*_, _%_, _^_, _≤_, _<_}
+use native.Mathlib.Omega.{arith}
+use lib.IntN.{ℤ, pos, natAbs}
+use lib.ListN.{length, getD, take, drop, replicate, length-drop, take-append-drop}
+use lib.Seq.{take-all, length-take-le}
+use Rattle.laws.specs.Lists.{total}
+use Rattle.laws.specs.Bytes.{numberAt, encode, decode, sizeOf}
+use Rattle.laws.proofs.Totals.{total-size}
+use Rattle.laws.proofs.Lists.{length-run, getD-tabulate}
+use Rattle.laws.proofs.Bytes.{number-below}
+use Rattle.laws.proofs.Fields.{length-decode, encode-decode}
+use Rattle.pricing.specs.Holding.{isEnergy}
+use Rattle.book.specs.Record.{marketsOf, ringSize}
+use Rattle.book.proofs.Validities.{Valid}
+use Rattle.image.specs.Counted.{joined, marketCount, countAt, inOrder, counted}
+use Rattle.image.specs.Layout.{widths, headSize, lengthOf, values, words, imageOf, bookOf, headFrom}
+use Rattle.image.specs.Storing.{pricesOk}
+use Rattle.image.specs.Loading.{priceAt, bookFrom, ringFrom}
+use Rattle.image.proofs.Lists.{joined-same}
+use Rattle.image.proofs.Readings.{before, start, pricesAt, goodAt, windows-whole, sums-whole, bytes-whole, all-good-whole}
+use Rattle.image.proofs.Markets.{price-size, count-of, at-below, marketAt, prices-are, placed, placed-length, placed-at, placed-used, placed-unused}
+use Rattle.image.proofs.Heads.{widths-length, field-at}
+use Rattle.image.proofs.Typed.{Typed}
+use Rattle.image.proofs.Books.{anewWith, values-book}
+use Rattle.image.proofs.Verdicts.{HeadOk, LoadOk, StoreOk}
+use Rattle.image.proofs.Prices.{MarketOk, ok-prices, laid, length-laid}
+use Rattle.image.proofs.Anew.{order-anew, valid-anew}
+
+-- ---- the head's bytes
+module _ (l : List ℕ) (bytes : (i : ℕ) → getD l i 0 < 256) (h : HeadOk l) where
+  small : (from w : ℕ) → from + w ≤ headSize → numberAt l from w < 256 ^ w
+  small from w k = number-below l bytes from w (omega (arith, h .long))
+
+  pub head-there : (s : List ℤ) → encode widths (values (length l) (bookOf (decode widths l) s)) ≡ take headSize l
+  unfolding widths sizeOf
+  head-there s =
+      let at = field-at l in
+      let e : values (length l) (bookOf (decode widths l) s) ≡ decode widths l =
+      values-book (decode widths l) (length-decode widths l) (length l) s (sym (at 0 0 4 (omega arith) refl refl ∙ h .size)) (at 1 4 2 (omega arith) refl refl ∙ h .kind)
+      (at 6 11 1 (omega arith) refl refl ∙ h .zero) (at 17 26 2 (omega arith) refl refl ∙ h .zeros)
+      (record { fits = rw (at 18 28 8 (omega arith) refl refl) (small 28 8 (omega arith)) })
+      (record { fits = rw (at 19 36 4 (omega arith) refl refl) (small 36 4 (omega arith)) })
+      (record { fits = rw (at 20 40 4 (omega arith) refl refl) (small 40 4 (omega arith)) }) in
+      ap (encode widths) e ∙ encode-decode widths l bytes (omega (arith, h .long))
+
+-- ---- the book and the ring
+-- "adds the sums up anew"
+abbrev pub sumsRead : List ℕ → List ℤ
+sumsRead l = placed (headFrom l) (λ q. total (pricesAt (headFrom l) l q))
+
+module _ (l : List ℕ) (n : ℕ) (ok : LoadOk l n) where
+  v : Valid (headFrom l)
+  v = ok .head .book
+
+  pub book-is : bookFrom l ≡ anewWith (headFrom l) (sumsRead l)
+  unfolding bookFrom bookOf
+  book-is = ap (anewWith (headFrom l)) (sums-whole (headFrom l) l (replicate 88 (pos 0)) (marketCount (headFrom l)))
+
+  pub ring-is : ringFrom l ≡ laid (headFrom l) (pricesAt (headFrom l) l)
+  unfolding ringFrom
+  ring-is = windows-whole (headFrom l) l (marketCount (headFrom l)) (count-of (headFrom l) v)
+
+  len : (q : ℕ) → q < marketCount (headFrom l) → length (pricesAt (headFrom l) l q) ≡ countAt (headFrom l) q
+  len q h = length-run (priceAt l (start (headFrom l) q)) (countAt (headFrom l) q) 0
+
+  -- the counted prices of the book are those of the image
+  pub order-is : (s : List ℤ) (q : ℕ) → q < marketCount (headFrom l) → inOrder (anewWith (headFrom l) s) (ringFrom l) q ≡ pricesAt (headFrom l) l q
+  order-is s q h = rw ring-is (order-anew (headFrom l) v s (pricesAt (headFrom l) l) len q h)
+
+  pub good : (q i : ℕ) → q < marketCount (headFrom l) → i < countAt (headFrom l) q → goodAt (headFrom l) l q i ≡ true
+  good q i h k = all-good-whole (headFrom l) l (marketCount (headFrom l)) (omega (arith, prices-are (headFrom l) v, ok .good)) q i h k
+
+  -- a sum of at most 2,016 prices in range
+  sum-size : (q : ℕ) → q < marketCount (headFrom l) → natAbs (total (pricesAt (headFrom l) l q)) ≤ 20160000000
+  sum-size q h =
+      let b = headFrom l in
+      let each : (k : ℕ) → k < length (pricesAt b l q) → natAbs (getD (pricesAt b l q) k (pos 0)) ≤ 10000000 =
+      λ k p. rw (getD-tabulate (priceAt l (start b q)) (countAt b q) k (pos 0) (omega (arith, len q h)))
+      (price-size (isEnergy (q % marketsOf (b .services))) (priceAt l (start b q) k) (good q k h (omega (arith, len q h)))) in
+      omega (arith, total-size 10000000 (pricesAt b l q) each, len q h, count-of b v q h, v .window)
+
+  -- rule 10 accepts it
+  pub valid-from : Valid (bookFrom l)
+  valid-from =
+      let b = headFrom l in
+      let f : ℕ → ℤ = λ q. total (pricesAt b l q) in
+      rw book-is
+      (valid-anew b v (sumsRead l) (λ k h r m. rw (placed-used b v f k r m) (sum-size (marketAt b k) (at-below b v k r m))) (λ k h u. placed-unused b v f k h u))
+
+  market-from : (q : ℕ) → q < marketCount (headFrom l) → MarketOk (anewWith (headFrom l) (sumsRead l)) (ringFrom l) q
+  market-from q h =
+      let b = headFrom l in
+      record {
+        ranged = λ i k. rw (order-is (sumsRead l) q h, getD-tabulate (priceAt l (start b q)) (countAt b q) i (pos 0) k) (good q i h k);
+        summed = ap total (order-is (sumsRead l) q h) ∙ sym (placed-at b v (λ p. total (pricesAt b l p)) q h);
+      }
+
+  -- and it does not meet 22
+  pub prices-from : pricesOk (bookFrom l) (ringFrom l) ≡ true
+  prices-from = rw book-is (ok-prices (anewWith (headFrom l) (sumsRead l)) (ringFrom l) market-from)
+
+  -- ---- their image
+  pub length-from : lengthOf (bookFrom l) ≡ length l
+  length-from = rw book-is (sym (ok .head .sized))
+
+  pub ring-size-from : length (ringFrom l) ≡ ringSize (bookFrom l .regions) (bookFrom l .services) (bookFrom l .window)
+  ring-size-from = rw (book-is, ring-is) (length-laid (headFrom l) (pricesAt (headFrom l) l) len (count-of (headFrom l) v))
+
+  pub store-from : (room : ℕ) → length l ≤ room → StoreOk (bookFrom l) (ringFrom l) room
+  store-from room h = record { book = valid-from; ring-size = ring-size-from; prices = prices-from; room = omega (arith, length-from) }
+
+  counted-is : counted (bookFrom l) (ringFrom l) ≡ joined (marketCount (headFrom l)) 0 (pricesAt (headFrom l) l)
+  counted-is = rw book-is (joined-same _ _ (marketCount (headFrom l)) 0 (λ q x y. order-is (sumsRead l) q (omega arith)))
+
+  prices-there : ((i : ℕ) → getD l i 0 < 256) → words (counted (bookFrom l) (ringFrom l)) ≡ drop headSize l
+  prices-there bytes =
+      let b = headFrom l in
+      let sz : length l ≡ headSize + 4 * before b (marketCount b) = omega (arith, ok .head .sized, prices-are b v) in
+      ap words counted-is ∙ bytes-whole b l bytes (marketCount b) (omega arith)
+      ∙ take-all (4 * before b (marketCount b)) (drop headSize l) (simp length-drop (omega arith))
+
+  head-from : ((i : ℕ) → getD l i 0 < 256) → encode widths (values (length l) (bookFrom l)) ≡ take headSize l
+  unfolding bookFrom
+  head-from bytes = head-there l bytes (ok .head) _
+
+  -- all of it
+  pub there : ((i : ℕ) → getD l i 0 < 256) → imageOf (bookFrom l) (ringFrom l) ≡ l
+  unfolding imageOf
+  there bytes = ap₂ _++_ (ap (λ (k : ℕ). encode widths (values k (bookFrom l))) length-from ∙ head-from bytes) (prices-there bytes) ∙ take-append-drop headSize l
+
+  -- ---- its arrays have their lengths
+  arrays : (length (headFrom l .parents) ≡ 8) × (length (headFrom l .counts) ≡ 8) × (length (headFrom l .marks) ≡ 88)
+  unfolding bookOf
+  arrays =
+      let vs = decode widths l in
+      let k : length vs ≡ 117 = length-decode widths l ∙ widths-length in
+      (length-take-le 8 (drop 7 vs) (simp length-drop (omega arith)), length-take-le 8 (drop 21 vs) (simp length-drop (omega arith)), length-take-le 88 (drop 29 vs) (simp length-drop (omega arith)))
+
+  pub typed-from : Typed (bookFrom l)
+  typed-from = rw book-is (record { parents = arrays .0; counts = arrays .1; sums = placed-length (headFrom l) v (λ q. total (pricesAt (headFrom l) l q)); marks = arrays .2 })

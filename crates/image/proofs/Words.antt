@@ -1,0 +1,61 @@
+-- Prices and their bytes, four each. Assumes nothing.
+use mathlib.Core.Path.{_≡_, refl, sym, _∙_}
+use mathlib.Core.Bool.{Bool, true, false}
+use mathlib.Core.List.{List, [], _∷_, _++_, append-assoc}
+use Prim.Native.Nat.{ℕ, zero, suc, _+_, _*_, _-_, _<_, _≤_}
+use native.Mathlib.Nat.{not-suc-le-zero}
+use native.Mathlib.Omega.{arith}
+use borrow.Author.Tests.{ltb-true, ltb-false}
+use lib.Dec.{ltb}
+use lib.IntN.{ℤ, pos}
+use lib.ListN.{length, getD, take, drop, length-append}
+use lib.Seq.{drop-drop, drop-at, take-at, take-add}
+use mir.Syntax.{w32}
+use mir.Val.{SFits, ofZ}
+use Rattle.laws.specs.Base.{pick}
+use Rattle.laws.specs.Lists.{run}
+use Rattle.laws.specs.Bytes.{le, numberAt}
+use Rattle.laws.proofs.Bytes.{length-le, word-back, signed-there}
+use Rattle.image.specs.Counted.{wrap}
+use Rattle.image.specs.Layout.{words}
+use Rattle.image.specs.Loading.{priceAt}
+
+pub wrap-lt : (w k : ℕ) → k < w + w → wrap w k < w
+wrap-lt w k h = by (ltb k w) refl
+  where
+    by : (t : Bool) → ltb k w ≡ t → pick t k (k - w) < w
+    by true e = omega (arith, ltb-true k w e)
+    by false e = omega (arith, ltb-false k w e)
+
+pub length-words : (zs : List ℤ) → length (words zs) ≡ 4 * length zs
+unfolding words
+length-words [] = refl
+length-words (z ∷ zs) = length-append (le 4 (ofZ w32 z)) (words zs) ∙ omega (arith, length-le 4 (ofZ w32 z), length-words zs)
+
+pub words-append : (xs ys : List ℤ) → words (xs ++ ys) ≡ words xs ++ words ys
+unfolding words
+words-append [] ys = refl
+words-append (x ∷ xs) ys = rw (words-append xs ys) (sym (append-assoc (le 4 (ofZ w32 x)) (words xs) (words ys)))
+
+-- a price read where its word was written
+pub price-back : (zs : List ℤ) (pre : List ℕ) (i : ℕ) → SFits w32 (getD zs i (pos 0)) → i < length zs → priceAt (pre ++ words zs) (length pre) i ≡ getD zs i (pos 0)
+unfolding words numberAt
+price-back [] pre i f h = absurd (not-suc-le-zero h)
+price-back (z ∷ zs) pre zero f h =
+    let w = le 4 (ofZ w32 z) in
+    let a : length pre + 4 * 0 ≡ length pre = omega arith in
+    rw (a, drop-at pre (w ++ words zs) (length pre) refl, take-at w (words zs) 4 (length-le 4 (ofZ w32 z))) (word-back z f)
+price-back (z ∷ zs) pre (suc i) f h =
+    let w = le 4 (ofZ w32 z) in
+    let a : length pre + 4 * suc i ≡ length (pre ++ w) + 4 * i = omega (arith, length-append pre w, length-le 4 (ofZ w32 z)) in
+    rw (← append-assoc pre w (words zs), a) (price-back zs (pre ++ w) i f (omega arith))
+
+-- the words of prices that were read
+pub words-back : (l : List ℕ) → ((i : ℕ) → getD l i 0 < 256) → (n from i : ℕ) → from + 4 * (i + n) ≤ length l → words (run n i (priceAt l from)) ≡ take (4 * n) (drop (from + 4 * i) l)
+unfolding words run
+words-back l b zero from i h = refl
+words-back l b (suc n) from i h =
+    let d = drop (from + 4 * i) l in
+    let e : 4 * suc n ≡ 4 + 4 * n = omega arith in
+    let g : from + 4 * suc i ≡ from + 4 * i + 4 = omega arith in
+    rw (signed-there w32 4 refl l (from + 4 * i) b (omega arith), words-back l b n from (suc i) (omega arith), e, take-add 4 (4 * n) d, drop-drop, g)

@@ -1,0 +1,5 @@
+pub mod Counted
+pub mod Layout
+pub mod Storing
+pub mod Loading
+pub mod Same

@@ -1,0 +1,25 @@
+-- When two books, each with its ring, are the same. Assumes nothing.
+use mathlib.Core.Path.{_≡_}
+use mathlib.Core.List.{List}
+use Prim.Native.Nat.{ℕ, _<_}
+use lib.IntN.{ℤ}
+use Rattle.book.specs.declared.record.Book.{Book}
+use Rattle.image.specs.Counted.{marketCount, inOrder}
+
+-- "Two books are the same if they differ only in where a window starts in its ring and in places that hold no counted
+-- price": every field but the next places, and the counted prices of every market, oldest first, are equal
+pub record Same (b : Book) (ring : List ℤ) (b′ : Book) (ring′ : List ℤ) : Type 0 where
+  pub regions : b .regions ≡ b′ .regions
+  pub services : b .services ≡ b′ .services
+  pub window : b .window ≡ b′ .window
+  pub halves : b .halves ≡ b′ .halves
+  pub parents : b .parents ≡ b′ .parents
+  pub threshold : b .threshold ≡ b′ .threshold
+  pub cap : b .cap ≡ b′ .cap
+  pub floor : b .floor ≡ b′ .floor
+  pub entries : b .entries ≡ b′ .entries
+  pub position : b .position ≡ b′ .position
+  pub counts : b .counts ≡ b′ .counts
+  pub sums : b .sums ≡ b′ .sums
+  pub marks : b .marks ≡ b′ .marks
+  pub prices : (q : ℕ) → q < marketCount b → inOrder b ring q ≡ inOrder b′ ring′ q

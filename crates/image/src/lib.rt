@@ -1,0 +1,3 @@
+// The image of a book: store, load and the image check.
+pub mod loading;
+pub mod storing;

@@ -1,0 +1,16 @@
+pub mod Pushes
+pub mod Periods
+pub mod Histories
+pub mod Joining
+pub mod Turning
+pub mod Sounds
+pub mod Steps
+pub mod Ranges
+pub mod Checks
+pub mod Keeping
+pub mod Sames
+pub mod Agrees
+pub mod Reports
+pub mod Begins
+pub mod Restarts
+pub mod Theorem

@@ -1,0 +1,4 @@
+pub mod Calls
+pub mod Ledger
+pub mod Book
+pub mod Demand
