@@ -1,4 +1,4 @@
--- Two books that are the same, each with its ring: an equivalence, and one that no call tells apart. Assumes nothing.
+-- Two books that are the same, each with its ring, are told apart by no entry and no setting (reports, stores and that it is an equivalence: image/proofs/Sameness). Assumes nothing.
 use mathlib.Core.Path.{_≡_, refl, sym, ap, ap₂, _∙_, subst}
 use mathlib.Core.Bool.{Bool, true, false, not}
 use mathlib.Core.List.{List, _++_}
@@ -10,8 +10,6 @@ use lib.Dec.{leb, ltb}
 use lib.IntN.{ℤ, pos, _+ℤ_, _-ℤ_}
 use lib.ListN.{length, drop, getD}
 use Rattle.laws.specs.Base.{pick}
-use Rattle.laws.specs.Bytes.{encode}
-use Rattle.laws.specs.Lists.{total}
 use Rattle.laws.proofs.Lists.{tabulate-same, flat-lt}
 use Rattle.laws.proofs.Tests.{by-test, and-left, and-right}
 use Rattle.pricing.specs.Verdict.{Verdict, refused}
@@ -20,118 +18,18 @@ use Rattle.book.specs.Record.{marketsOf, placeOf, isAccepted}
 use Rattle.book.specs.Validity.{usedPlace, valid}
 use Rattle.book.specs.Setting as Setting
 use Rattle.book.specs.Setting.{thresholdVerdict, limitsVerdict, withSettings, changed, setThreshold, setLimits}
-use Rattle.book.specs.Report.{reportOf}
-use Rattle.image.specs.Counted.{joined, inOrder, marketCount}
-use Rattle.image.specs.Layout.{widths, firsts, seconds, values, words, lengthOf, imageOf}
-use Rattle.image.specs.Storing as Storing
-use Rattle.image.specs.Storing.{pricesOk, storeVerdict, stored}
+use Rattle.image.specs.Counted.{inOrder, marketCount}
 use Rattle.image.specs.Same.{Same}
+use Rattle.image.proofs.Sameness.{withNexts, same-book}
 use Rattle.publishing.specs.Entry.{Entry}
 use Rattle.entries.specs.Checking.{entryVerdict}
 use Rattle.entries.specs.Windows.{unmarked, joins, joining, leaving, sumsAfter, ringAfter}
 use Rattle.entries.specs.Periods.{marksAfter, lastOfDay}
 use Rattle.entries.specs.Entering.{shapeOf, bookAfter, Outcome, enterVerdict, entered}
 use Rattle.ledger.proofs.Pushes.{pushed}
-use Rattle.ledger.proofs.Joining.{Every}
-use Rattle.ledger.proofs.Ranges.{Ranged, Prices, prices-is, is-prices}
 use Rattle.ledger.proofs.Sounds.{Sound, marketAt}
 use Rattle.ledger.proofs.Steps.{order-after, leaving-is}
 use Rattle.ledger.proofs.Checks.{entered-accepted, entered-refused}
-
--- ---- an equivalence
-pub same-refl : (b : Book) (ring : List ℤ) → Same b ring b ring
-same-refl b ring = record {
-  regions = refl;
-  services = refl;
-  window = refl;
-  halves = refl;
-  parents = refl;
-  threshold = refl;
-  cap = refl;
-  floor = refl;
-  entries = refl;
-  position = refl;
-  counts = refl;
-  sums = refl;
-  marks = refl;
-  prices = λ q h. refl;
-}
-
-count-same : (b : Book) (ring : List ℤ) (b′ : Book) (ring′ : List ℤ) → Same b ring b′ ring′ → marketCount b ≡ marketCount b′
-count-same b ring b′ ring′ s = ap₂ (λ (r m : ℕ). r * marketsOf m) (s .regions) (s .services)
-
-pub same-sym : (b : Book) (ring : List ℤ) (b′ : Book) (ring′ : List ℤ) → Same b ring b′ ring′ → Same b′ ring′ b ring
-same-sym b ring b′ ring′ s = record {
-  regions = sym (s .regions);
-  services = sym (s .services);
-  window = sym (s .window);
-  halves = sym (s .halves);
-  parents = sym (s .parents);
-  threshold = sym (s .threshold);
-  cap = sym (s .cap);
-  floor = sym (s .floor);
-  entries = sym (s .entries);
-  position = sym (s .position);
-  counts = sym (s .counts);
-  sums = sym (s .sums);
-  marks = sym (s .marks);
-  prices = λ q h. sym (s .prices q (omega (arith, count-same b ring b′ ring′ s)));
-}
-
-pub same-trans : (b : Book) (ring : List ℤ) (b′ : Book) (ring′ : List ℤ) (b″ : Book) (ring″ : List ℤ) → Same b ring b′ ring′ → Same b′ ring′ b″ ring″ → Same b ring b″ ring″
-same-trans b ring b′ ring′ b″ ring″ s t = record {
-  regions = s .regions ∙ t .regions;
-  services = s .services ∙ t .services;
-  window = s .window ∙ t .window;
-  halves = s .halves ∙ t .halves;
-  parents = s .parents ∙ t .parents;
-  threshold = s .threshold ∙ t .threshold;
-  cap = s .cap ∙ t .cap;
-  floor = s .floor ∙ t .floor;
-  entries = s .entries ∙ t .entries;
-  position = s .position ∙ t .position;
-  counts = s .counts ∙ t .counts;
-  sums = s .sums ∙ t .sums;
-  marks = s .marks ∙ t .marks;
-  prices = λ q h. s .prices q h ∙ t .prices q (omega (arith, count-same b ring b′ ring′ s));
-}
-
--- ---- a same book is the book with other next places
-abbrev pub withNexts : Book → List ℕ → Book
-withNexts b nexts = record {
-  regions = b .regions;
-  services = b .services;
-  window = b .window;
-  halves = b .halves;
-  parents = b .parents;
-  threshold = b .threshold;
-  cap = b .cap;
-  floor = b .floor;
-  entries = b .entries;
-  position = b .position;
-  counts = b .counts;
-  nexts = nexts;
-  sums = b .sums;
-  marks = b .marks;
-}
-
-same-book : (b : Book) (ring : List ℤ) (b′ : Book) (ring′ : List ℤ) → Same b ring b′ ring′ → withNexts b (b′ .nexts) ≡ b′
-same-book b ring b′ ring′ s = λ i. record {
-  regions = s .regions i;
-  services = s .services i;
-  window = s .window i;
-  halves = s .halves i;
-  parents = s .parents i;
-  threshold = s .threshold i;
-  cap = s .cap i;
-  floor = s .floor i;
-  entries = s .entries i;
-  position = s .position i;
-  counts = s .counts i;
-  nexts = b′ .nexts;
-  sums = s .sums i;
-  marks = s .marks i;
-}
 
 -- other next places and another ring with the same counted prices
 nexts-alone : (b : Book) (ring : List ℤ) (nexts : List ℕ) (ring′ : List ℤ) → ((q : ℕ) → q < marketCount b → inOrder b ring q ≡ inOrder (withNexts b nexts) ring′ q)
@@ -157,7 +55,7 @@ module _ (b : Book) (ring : List ℤ) (b′ : Book) (ring′ : List ℤ) (s : Sa
   -- from the book with other next places to the same book
   along : (P : Book → Type 0) → (((q : ℕ) → q < marketCount b → inOrder b ring q ≡ inOrder (withNexts b (b′ .nexts)) ring′ q) → valid b ≡ valid (withNexts b (b′ .nexts)) → P (withNexts b (b′ .nexts))) → P b′
   along P f =
-      subst (λ (c : Book). ((q : ℕ) → q < marketCount b → inOrder b ring q ≡ inOrder c ring′ q) → valid b ≡ valid c → P c) (same-book b ring b′ ring′ s) f (s .prices) v
+      subst (λ (c : Book). ((q : ℕ) → q < marketCount b → inOrder b ring q ≡ inOrder c ring′ q) → valid b ≡ valid c → P c) (same-book s) f (s .prices) v
 
 -- ---- an entry
 pick-same : {A : Type 0} (t : Bool) (x y z : A) → (t ≡ true → x ≡ y) → pick t x z ≡ pick t y z
@@ -231,63 +129,14 @@ module _ (b : Book) (ring : List ℤ) (nexts : List ℕ) (ring′ : List ℤ) (s
       (λ t. rw (entered-refused b ring number e table t, entered-refused c ring′ number e table (sym (ap isAccepted w) ∙ t))
       (record { verdict = w; count = refl; table = refl; same = nexts-alone b ring nexts ring′ prices }))
 
--- ---- the other calls: a report gives the same numbers, a store the same bytes, and settings leave same books
-pub record Stored-alike (o o′ : Storing.Outcome) : Type 0 where
-  pub verdict : o .verdict ≡ o′ .verdict
-  pub length : o .length ≡ o′ .length
-  pub buffer : o .buffer ≡ o′ .buffer
-
+-- ---- settings leave same books
 pub record Changed-alike (ring ring′ : List ℤ) (o o′ : Setting.Outcome) : Type 0 where
   pub verdict : o .verdict ≡ o′ .verdict
   pub same : Same (o .book) ring (o′ .book) ring′
 
-bool-same : (a b : Bool) → (a ≡ true → b ≡ true) → (b ≡ true → a ≡ true) → a ≡ b
-bool-same true b f g = sym (f refl)
-bool-same false true f g = g refl
-bool-same false false f g = refl
-
-joined-same : (n i : ℕ) (f g : ℕ → List ℤ) → ((q : ℕ) → i ≤ q → q < i + n → f q ≡ g q) → joined n i f ≡ joined n i g
-unfolding joined
-joined-same zero i f g e = refl
-joined-same (suc n) i f g e = ap₂ _++_ (e i (omega arith) (omega arith)) (joined-same n (suc i) f g (λ q h l. e q (omega arith) (omega arith)))
-
 module _ (b : Book) (ring : List ℤ) (nexts : List ℕ) (ring′ : List ℤ)
     (prices : (q : ℕ) → q < marketCount b → inOrder b ring q ≡ inOrder (withNexts b nexts) ring′ q) where
-  good-same : pricesOk b ring ≡ pricesOk (withNexts b nexts) ring′
-  good-same =
-      let at : (r m : ℕ) → r < b .regions → m < marketsOf (b .services) → inOrder b ring (marketAt b r m) ≡ inOrder (withNexts b nexts) ring′ (marketAt b r m) =
-      λ r m h l. prices (marketAt b r m) (flat-lt r m (b .regions) (marketsOf (b .services)) h l) in
-      bool-same (pricesOk b ring) (pricesOk (withNexts b nexts) ring′)
-      (λ e. let p : Prices b ring = prices-is b ring e in is-prices (withNexts b nexts) ring′ (record {
-        ranged = λ r m h l. subst (Every (Ranged m)) (at r m h l) (p .ranged r m h l);
-        totals = λ r m h l. p .totals r m h l ∙ ap total (at r m h l);
-      }))
-      (λ e. let p : Prices (withNexts b nexts) ring′ = prices-is (withNexts b nexts) ring′ e in is-prices b ring (record {
-        ranged = λ r m h l. subst (Every (Ranged m)) (sym (at r m h l)) (p .ranged r m h l);
-        totals = λ r m h l. p .totals r m h l ∙ ap total (sym (at r m h l));
-      }))
-
-  image-is : imageOf b ring ≡ imageOf (withNexts b nexts) ring′
-  unfolding imageOf values firsts seconds
-  image-is = ap (λ (u : List ℤ). encode widths (values (lengthOf b) b) ++ words u) (joined-same (marketCount b) 0 (inOrder b ring) (inOrder (withNexts b nexts) ring′) (λ q h l. prices q (omega arith)))
-
   module _ (v : valid b ≡ valid (withNexts b nexts)) where
-    report-is : (region market : ℕ) → reportOf b region market ≡ reportOf (withNexts b nexts) region market
-    unfolding reportOf
-    report-is region market = rw v
-
-    store-is : length ring ≡ length ring′ → (room : ℕ) → storeVerdict b ring room ≡ storeVerdict (withNexts b nexts) ring′ room
-    unfolding storeVerdict
-    store-is n room = rw (n, v, good-same)
-
-    stored-is : length ring ≡ length ring′ → (buffer : List ℕ) → Stored-alike (stored b ring buffer) (stored (withNexts b nexts) ring′ buffer)
-    unfolding stored
-    stored-is n buffer =
-        let w = store-is n (length buffer) in
-        by-test (isAccepted (storeVerdict b ring (length buffer)))
-        (λ t. rw (sym w, t) (record { verdict = refl; length = refl; buffer = ap (λ (u : List ℕ). u ++ drop (lengthOf b) buffer) image-is }))
-        (λ t. rw (sym w, t) (record { verdict = refl; length = refl; buffer = refl }))
-
     changed-is : (x : Verdict) (threshold cap floor : ℤ)
         → Changed-alike ring ring′ (changed b x (withSettings b threshold cap floor)) (changed (withNexts b nexts) x (withSettings (withNexts b nexts) threshold cap floor))
     changed-is x threshold cap floor =
@@ -305,12 +154,6 @@ module _ (b : Book) (ring : List ℤ) (b′ : Book) (ring′ : List ℤ) (s : Sa
   entered-same f f′ number e table =
       along b ring b′ ring′ s v (λ c. Sound c ring′ → Alike (entered b ring number e table) (entered c ring′ number e table))
       (λ p u g. nexts-same b ring (b′ .nexts) ring′ f g p e u number table) f′
-
-  pub report-same : (region market : ℕ) → reportOf b region market ≡ reportOf b′ region market
-  report-same region market = along b ring b′ ring′ s v (λ c. reportOf b region market ≡ reportOf c region market) (λ p u. report-is b ring (b′ .nexts) ring′ p u region market)
-
-  pub stored-same : length ring ≡ length ring′ → (buffer : List ℕ) → Stored-alike (stored b ring buffer) (stored b′ ring′ buffer)
-  stored-same n buffer = along b ring b′ ring′ s v (λ c. Stored-alike (stored b ring buffer) (stored c ring′ buffer)) (λ p u. stored-is b ring (b′ .nexts) ring′ p u n buffer)
 
   pub threshold-same : (threshold : ℤ) → Changed-alike ring ring′ (setThreshold b threshold) (setThreshold b′ threshold)
   unfolding setThreshold
