@@ -1,3 +1,4 @@
+-- `pricing::text::magnitude` meets its contract. Assumes nothing.
 use borrow.Author.Needs.{needs}
 use mathlib.Core.Path.{_≡_}
 use mathlib.Core.Bool.{true}
