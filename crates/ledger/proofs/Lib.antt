@@ -14,3 +14,7 @@ pub mod Reports
 pub mod Begins
 pub mod Restarts
 pub mod Theorem
+pub mod Corollaries
+pub mod Cases
+pub mod Run
+pub mod Full

@@ -1,0 +1,203 @@
+-- What follows from DEMAND 3 and P's definitions: over every list of calls 10 and 22 never occur, a refused call answers zeros and
+-- changes nothing, and restarts make no difference. Assumes nothing.
+use mathlib.Core.Path.{_≡_, refl, sym, ap, ap₂, _∙_, subst}
+use mathlib.Core.Bool.{Bool, true, false, not, _&&_}
+use mathlib.Core.List.{List, [], _∷_}
+use Prim.Native.Nat.{ℕ}
+use lib.Dec.{T, eqb, leb, ltb}
+use lib.IntN.{ℤ}
+use lib.ListN.{length, take}
+use Rattle.laws.specs.Base.{pick}
+use Rattle.laws.proofs.Tests.{by-test, true-is}
+use Rattle.pricing.specs.Verdict.{Verdict, refused, refusedAt}
+use Rattle.pricing.specs.Holding.{limitsOk}
+use Rattle.book.specs.declared.record.Book.{Book}
+use Rattle.book.specs.Record.{marketsOf, tableSize, ringSize, isAccepted}
+use Rattle.book.specs.Validity.{thresholdOk, valid}
+use Rattle.book.specs.Setting.{thresholdVerdict, limitsVerdict, withSettings, changed, setThreshold, setLimits}
+use Rattle.book.specs.Report.{nothing, reportVerdict}
+use Rattle.book.specs.Opening as Opening
+use Rattle.publishing.specs.Entry.{Entry}
+use Rattle.entries.specs.Checking.{Shape, lengthsOk, firstMark, firstPrice, firstFactor, entryVerdict}
+use Rattle.entries.specs.Entering as Entering
+use Rattle.entries.specs.Entering.{enterVerdict}
+use Rattle.image.specs.Storing as Storing
+use Rattle.image.specs.Storing.{storeVerdict, stored}
+use Rattle.image.specs.Loading as Loading
+use Rattle.image.specs.Loading.{loaded}
+use Rattle.ledger.specs.Calls.{Call, entry, threshold, limits, report, restart, Answer, entered, set, reported, answers, verdictIn, Never, refusedAnswer, Zeros, withoutRestarts, dropRestarts}
+use Rattle.ledger.specs.Ledger as Ledger
+use Rattle.ledger.specs.Ledger.{Ledger, interval, taken, imageLength, reportOf, restartVerdict}
+use Rattle.ledger.specs.Book as Book
+use Rattle.ledger.specs.Book.{Held, isOwn}
+use Rattle.ledger.specs.Demand.{settingsOf, opening, Demand-3}
+use Rattle.ledger.proofs.Checks.{entered-accepted, entered-refused}
+use Rattle.ledger.proofs.Theorem.{demand-3}
+
+-- ---- 10 and 22
+-- a verdict by neither number
+record Other (v : Verdict) : Type 0 where
+  not-10 : v .number ≡ 10 → ⊥
+  not-22 : v .number ≡ 22 → ⊥
+
+by-other : (n place : ℕ) → T (not (eqb n 10)) → T (not (eqb n 22)) → Other (refusedAt n place)
+by-other n place a b =
+    record { not-10 = λ e. subst (λ (k : ℕ). T (not (eqb k 10))) e a; not-22 = λ e. subst (λ (k : ℕ). T (not (eqb k 22))) e b }
+
+other-pick : (t : Bool) {x y : Verdict} → Other x → Other y → Other (pick t x y)
+other-pick true a b = a
+other-pick false a b = b
+
+entry-other : (s : Shape) (taken ring number : ℕ) (e : Entry) (table : ℕ) → Other (entryVerdict s taken ring number e table)
+unfolding entryVerdict
+entry-other s taken ring number e table =
+    let mark = firstMark (s .regions) (e .offer .marked) in
+    let price = firstPrice (s .regions) (marketsOf (s .services)) (e .offer .prices) (e .offer .marked) in
+    let factor = firstFactor (s .regions) (s .parents) (e .factors) in
+    other-pick (not (lengthsOk s ring e table)) (by-other 11 0 tt tt)
+    (other-pick (leb 10000000 taken) (by-other 12 0 tt tt)
+    (other-pick (not (eqb number taken)) (by-other 13 0 tt tt)
+    (other-pick (not (leb (e .offer .kind) 1)) (by-other 14 0 tt tt)
+    (other-pick (ltb mark (s .regions)) (by-other 15 mark tt tt)
+    (other-pick (ltb price (tableSize (s .regions) (s .services))) (by-other 16 price tt tt)
+    (other-pick (ltb factor (s .regions)) (by-other 17 factor tt tt) (by-other 0 0 tt tt)))))))
+
+threshold-other : (x : ℤ) → Other (thresholdVerdict x)
+unfolding thresholdVerdict
+threshold-other x = other-pick (not (thresholdOk x)) (by-other 18 0 tt tt) (by-other 0 0 tt tt)
+
+limits-other : (c f : ℤ) → Other (limitsVerdict c f)
+unfolding limitsVerdict
+limits-other c f = other-pick (not (limitsOk c f)) (by-other 19 0 tt tt) (by-other 0 0 tt tt)
+
+report-other : (R S r m : ℕ) → Other (reportVerdict R S r m)
+unfolding reportVerdict
+report-other R S r m = other-pick (not (ltb r R && leb m S)) (by-other 21 0 tt tt) (by-other 0 0 tt tt)
+
+restart-other : (p : Ledger) (buffer ring : ℕ) → Other (restartVerdict p buffer ring)
+unfolding restartVerdict
+restart-other p buffer ring =
+    other-pick (ltb buffer (imageLength p)) (by-other 23 0 tt tt)
+    (other-pick (not (eqb ring (ringSize (p .settings .regions) (p .settings .services) (p .settings .window)))) (by-other 11 0 tt tt)
+    (by-other 0 0 tt tt))
+
+-- any answer of P
+answer-other : (p : Ledger) (c : Call) → Other (verdictIn (Ledger.play p c .answer))
+unfolding Ledger.play reportOf
+answer-other p (entry ring number e table) =
+    by-test (isAccepted (entryVerdict (Ledger.shapeOf (p .settings)) (taken p) (length ring) number e (length table)))
+    (λ t. rw t (by-other 0 0 tt tt))
+    (λ t. rw t (entry-other (Ledger.shapeOf (p .settings)) (taken p) (length ring) number e (length table)))
+answer-other p (threshold x) = threshold-other x
+answer-other p (limits c f) = limits-other c f
+answer-other p (report r m) =
+    by-test (isAccepted (reportVerdict (p .settings .regions) (p .settings .services) r m))
+    (λ t. rw t (by-other 0 0 tt tt)) (λ t. rw t (report-other (p .settings .regions) (p .settings .services) r m))
+answer-other p (restart buffer ring) = restart-other p (length buffer) (length ring)
+
+never-p : (L : List Call) (p : Ledger) → Never 10 (answers Ledger.play p L) × Never 22 (answers Ledger.play p L)
+unfolding answers
+never-p [] p = (tt, tt)
+never-p (c ∷ L) p =
+    let o = answer-other p c in
+    let r = never-p L (Ledger.play p c .state) in
+    ((o .not-10, r .0), (o .not-22, r .1))
+
+-- ---- refused calls
+-- "a refused call leaves P and the lent table as they were and answers zeros beside number and place"
+pub refused-p : (p : Ledger) (c : Call) → isAccepted (verdictIn (Ledger.play p c .answer)) ≡ false
+    → (Ledger.play p c .state ≡ p) × (Ledger.play p c .answer ≡ refusedAnswer c (verdictIn (Ledger.play p c .answer)))
+unfolding Ledger.play reportOf
+refused-p p (entry ring number e table) h =
+    let v = entryVerdict (Ledger.shapeOf (p .settings)) (taken p) (length ring) number e (length table) in
+    by-test (isAccepted v) (λ t. absurd (true-is (sym (rw t at h)))) (λ t. rw t (refl, refl))
+refused-p p (threshold x) h = (rw h, refl)
+refused-p p (limits c f) h = (rw h, refl)
+refused-p p (report r m) h =
+    by-test (isAccepted (reportVerdict (p .settings .regions) (p .settings .services) r m))
+    (λ t. absurd (true-is (sym (rw t at h)))) (λ t. rw t (refl, refl))
+refused-p p (restart buffer ring) h = (refl, refl)
+
+zeros-p : (L : List Call) (p : Ledger) → Zeros L (answers Ledger.play p L)
+unfolding answers
+zeros-p [] p = tt
+zeros-p (c ∷ L) p = (λ h. refused-p p c h .1, zeros-p L (Ledger.play p c .state))
+
+-- ---- restarts
+restarts-p : (L : List Call) (p : Ledger) → dropRestarts (answers Ledger.play p L) ≡ answers Ledger.play p (withoutRestarts L)
+unfolding answers dropRestarts withoutRestarts Ledger.play
+restarts-p [] p = refl
+restarts-p (entry ring number e table ∷ L) p =
+    by-test (isAccepted (entryVerdict (Ledger.shapeOf (p .settings)) (taken p) (length ring) number e (length table)))
+    (λ t. rw t (ap₂ _∷_ refl (restarts-p L (Ledger.kept p (interval e)))))
+    (λ t. rw t (ap₂ _∷_ refl (restarts-p L p)))
+restarts-p (threshold x ∷ L) p = ap (λ (l : List Answer). set (thresholdVerdict x) ∷ l) (restarts-p L (Ledger.play p (threshold x) .state))
+restarts-p (limits c f ∷ L) p = ap (λ (l : List Answer). set (limitsVerdict c f) ∷ l) (restarts-p L (Ledger.play p (limits c f) .state))
+restarts-p (report r m ∷ L) p = ap (λ (l : List Answer). reported (reportOf p r m) ∷ l) (restarts-p L p)
+restarts-p (restart buffer ring ∷ L) p = restarts-p L p
+
+-- and a refused call leaves the book and its ring as they were: from the book's definitions
+refused-entry : (s : Held) (g : List ℤ) (number : ℕ) (e : Entry) (table : List ℤ)
+    → isAccepted (Entering.entered (s .book) (pick (isOwn (s .book) g) (s .ring) g) number e table .verdict) ≡ false
+    → Book.enters s g (Entering.entered (s .book) (pick (isOwn (s .book) g) (s .ring) g) number e table) .state ≡ s
+refused-entry s g number e table h =
+    let lent = pick (isOwn (s .book) g) (s .ring) g in
+    by-test (isAccepted (enterVerdict (s .book) (length lent) number e (length table)))
+    (λ t. absurd (true-is (sym (rw (entered-accepted (s .book) lent number e table t) at h))))
+    (λ t. rw (entered-refused (s .book) lent number e table t) (by-test (isOwn (s .book) g) (λ q. rw q) (λ q. rw q)))
+
+refused-setting : (s : Held) (v : Verdict) (after : Book) → isAccepted (changed (s .book) v after .verdict) ≡ false
+    → Book.sets s (changed (s .book) v after) .state ≡ s
+refused-setting s v after h =
+    by-test (valid (s .book))
+    (λ a. by-test (isAccepted v) (λ t. absurd (true-is (sym (rw (a, t) at h)))) (λ t. rw (a, t)))
+    (λ a. rw a)
+
+-- a store hands the book back
+handed : (b : Book) (ring : List ℤ) (buffer : List ℕ) → stored b ring buffer .book ≡ b
+unfolding stored
+handed b ring buffer = by-test (isAccepted (storeVerdict b ring (length buffer))) (λ t. rw t) (λ t. rw t)
+
+refused-load : (s : Held) (o : Loading.Outcome) → isAccepted (verdictIn (Book.loads s o .answer)) ≡ false → Book.loads s o .state ≡ s
+refused-load s o h = by-test (isAccepted (o .verdict)) (λ t. absurd (true-is (sym (rw t at h)))) (λ t. rw t)
+
+refused-restart : (s : Held) (o : Storing.Outcome) (ring : List ℤ) → o .book ≡ s .book
+    → isAccepted (verdictIn (Book.restarts s o ring .answer)) ≡ false → Book.restarts s o ring .state ≡ s
+refused-restart s o ring same h =
+    let back : _≡_ {A = Held} (record { book = o .book; ring = s .ring }) s = ap (λ (b : Book). record { book = b; ring = s .ring }) same in
+    by-test (isAccepted (o .verdict))
+    (λ t. rw t (refused-load (record { book = o .book; ring = s .ring }) (loaded (take (o .length) (o .buffer)) ring) (rw t at h) ∙ back))
+    (λ t. rw t back)
+
+pub refused-b : (s : Held) (c : Call) → isAccepted (verdictIn (Book.play s c .answer)) ≡ false → Book.play s c .state ≡ s
+unfolding Book.play setThreshold setLimits
+refused-b s (entry g number e table) h = refused-entry s g number e table h
+refused-b s (threshold x) h = refused-setting s (thresholdVerdict x) (withSettings (s .book) x (s .book .cap) (s .book .floor)) h
+refused-b s (limits c f) h = refused-setting s (limitsVerdict c f) (withSettings (s .book) (s .book .threshold) c f) h
+refused-b s (report r m) h = refl
+refused-b s (restart buffer g) h = refused-restart s (stored (s .book) (s .ring) buffer) g (handed (s .book) (s .ring) buffer) h
+
+-- ---- over every list of calls, from an opening whose own answer is an acceptance
+module _ (regions services window halves first : ℕ) (parents : ℕ → ℕ) (θ cap floor : ℤ) (ring : List ℤ)
+    (ok : Opening.opened (settingsOf regions services window halves first parents θ cap floor) ring .verdict .number ≡ 0) where
+  abbrev pub start : Held
+  start = opening (settingsOf regions services window halves first parents θ cap floor) ring
+
+  abbrev pub beginning : Ledger
+  beginning = Ledger.begin (settingsOf regions services window halves first parents θ cap floor)
+
+  same : (L : List Call) → answers Book.play start L ≡ answers Ledger.play beginning L
+  unfolding Demand-3
+  same L = demand-3 regions services window halves first parents θ cap floor ring L ok .during
+
+  -- "10 and 22 never occur over L"
+  pub never-10-22 : (L : List Call) → Never 10 (answers Book.play start L) × Never 22 (answers Book.play start L)
+  never-10-22 L = rw (same L) (never-p L beginning)
+
+  -- a refused call "leaves .. the lent table as [it was] and answers zeros beside number and place"
+  pub refused-zeros : (L : List Call) → Zeros L (answers Book.play start L)
+  refused-zeros L = rw (same L) (zeros-p L beginning)
+
+  -- restarts make no difference: the other calls are answered as if none had been made
+  pub restarts-alike : (L : List Call) → dropRestarts (answers Book.play start L) ≡ answers Book.play start (withoutRestarts L)
+  restarts-alike L = ap dropRestarts (same L) ∙ restarts-p L beginning ∙ sym (same (withoutRestarts L))
