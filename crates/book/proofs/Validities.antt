@@ -67,7 +67,7 @@ other : (a b : Bool) → b ≡ true → (a || b) ≡ true
 other true b e = refl
 other false b e = e
 
-seven : (a b c d e f g : Bool) → (a && b && c && d && e && f && g) ≡ true → (a ≡ true) × (b ≡ true) × (c ≡ true) × (d ≡ true) × (e ≡ true) × (f ≡ true) × (g ≡ true)
+pub seven : (a b c d e f g : Bool) → (a && b && c && d && e && f && g) ≡ true → (a ≡ true) × (b ≡ true) × (c ≡ true) × (d ≡ true) × (e ≡ true) × (f ≡ true) × (g ≡ true)
 seven a b c d e f g h =
     let p = both (a && b && c && d && e && f) g h in
     let q = both (a && b && c && d && e) f (p .0) in
@@ -155,13 +155,13 @@ module _ (s : ℤ) (m : ℕ) where
   is-no-place x y = rw (x, y)
 
 module _ (R S k : ℕ) where
-  used : k / 11 < R → k % 11 ≤ S → usedPlace R S k ≡ true
+  pub used : k / 11 < R → k % 11 ≤ S → usedPlace R S k ≡ true
   used x y = rw (lt-ltb (k / 11) R x, le-leb (k % 11) S y)
 
-  unused : (R ≤ k / 11) ⊎ (S < k % 11) → usedPlace R S k ≡ false
+  pub unused : (R ≤ k / 11) ⊎ (S < k % 11) → usedPlace R S k ≡ false
   unused = ⊎-elim (λ x. rw (le-ltb (k / 11) R x)) (λ y. by-test (ltb (k / 11) R) (λ e. rw (e, lt-leb (k % 11) S y)) (λ e. rw e))
 
-  used-or : ((k / 11 < R) × (k % 11 ≤ S)) ⊎ ((R ≤ k / 11) ⊎ (S < k % 11))
+  pub used-or : ((k / 11 < R) × (k % 11 ≤ S)) ⊎ ((R ≤ k / 11) ⊎ (S < k % 11))
   used-or =
       by-test (usedPlace R S k)
       (λ e. let p = both (ltb (k / 11) R) (leb (k % 11) S) e in inl (ltb-true (k / 11) R (p .0), leb-true (k % 11) S (p .1)))

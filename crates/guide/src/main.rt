@@ -2,9 +2,13 @@
 mod amounts;
 mod indexes;
 mod schedules;
+mod books;
+mod links;
 
 fn main() {
     amounts::all();
     indexes::all();
     schedules::all();
+    books::all();
+    links::all();
 }

@@ -10,7 +10,7 @@ use native.Mathlib.Omega.{arith}
 use lib.Dec.{ltb}
 use borrow.Author.Tests.{lt-ltb, le-ltb}
 use lib.ListN.{length, getD, set, drop, replicate, length-append, length-drop, drop-of-length-le, length-set}
-use lib.Seq.{drop-cons, drop-append-le, drop-drop, set-at, append-snoc, getD-set-other, sets}
+use lib.Seq.{drop-cons, drop-append-le, drop-drop, set-at, append-snoc, getD-set-same, getD-set-other, sets}
 use Rattle.laws.specs.Base.{pick}
 use Rattle.laws.proofs.Tests.{and-left, and-right, or-left, or-right, true-is, lt-or-ge}
 use Rattle.laws.specs.Lists.{run, tabulate, puts, allBelow, anyBelow, countBelow, firstOf, lastN}
@@ -177,6 +177,24 @@ run-same (suc n) i j f g e =
 pub tabulate-same : {A : Type 0} (n : ℕ) (f g : ℕ → A) → ((k : ℕ) → k < n → f k ≡ g k) → tabulate n f ≡ tabulate n g
 tabulate-same n f g e = run-same n 0 0 f g (λ k h. let z : 0 + k ≡ k = omega arith in rw z (e k h))
 
+-- a loop that fills a list d from the front, and stops after m: the rest is as it was
+pub tab-rest : {A : Type 0} (f : ℕ → A) (z : A) (d : List A) (m : ℕ) → m ≤ length d → tabulate m f ++ drop m d ≡ tabulate (length d) (λ k. pick (ltb k m) (f k) (getD d k z))
+unfolding run
+tab-rest {A} f z d m h = from d (λ k. getD d k z) m 0 h (omega arith) (λ k l. ap (λ (i : ℕ). getD d i z) (omega arith))
+  where
+    rest : (d : List A) (g : ℕ → A) (i : ℕ) → m ≤ i → ((k : ℕ) → k < length d → getD d k z ≡ g (i + k)) → d ≡ run (length d) i (λ k. pick (ltb k m) (f k) (g k))
+    rest [] g i h e = refl
+    rest (x ∷ d) g i h e =
+        let here : x ≡ g i = e 0 (omega arith) ∙ ap g (omega arith) in
+        ap₂ _∷_ (rw (le-ltb i m h) here) (rest d g (suc i) (omega arith) (λ k l. e (suc k) (omega arith) ∙ ap g (omega arith)))
+
+    from : (d : List A) (g : ℕ → A) (l i : ℕ) → l ≤ length d → m ≡ i + l → ((k : ℕ) → k < length d → getD d k z ≡ g (i + k)) → run l i f ++ drop l d ≡ run (length d) i (λ k. pick (ltb k m) (f k) (g k))
+    from d g zero i h q e = rest d g i (omega arith) e
+    from [] g (suc l) i h q e = absurd (not-suc-le-zero h)
+    from (x ∷ d) g (suc l) i h q e =
+        let b : i < m = omega arith in
+        ap₂ _∷_ (rw (lt-ltb i m b)) (from d g l (suc i) (omega arith) (omega arith) (λ k l. e (suc k) (omega arith) ∙ ap g (omega arith)))
+
 -- a loop that fills n copies of d from the front, and stops after m
 pub tab-below : {A : Type 0} (f : ℕ → A) (d : A) (n m : ℕ) → m ≤ n → tabulate m f ++ drop m (replicate n d) ≡ tabulate n (λ k. pick (ltb k m) (f k) d)
 unfolding run
@@ -200,6 +218,12 @@ tabulate-const {A} a n = from n 0
     from zero i = refl
     from (suc m) i = ap (λ (l : List A). a ∷ l) (from m (suc i))
 
+-- within a list it does not matter what would be read past its end
+pub getD-any : {A : Type 0} (l : List A) (k : ℕ) (d e : A) → k < length l → getD l k d ≡ getD l k e
+getD-any [] k d e h = absurd (not-suc-le-zero h)
+getD-any (a ∷ l) zero d e h = refl
+getD-any (a ∷ l) (suc k) d e h = getD-any l k d e (omega arith)
+
 -- ---- scattered stores
 module _ {A : Type 0} (l : List A) (at : ℕ → ℕ) (v : ℕ → A) where
   pub puts-none : l ≡ puts l at v 0
@@ -221,6 +245,17 @@ module _ {A : Type 0} (l : List A) (at : ℕ → ℕ) (v : ℕ → A) where
   getD-puts-other zero j d h = refl
   getD-puts-other (suc n) j d h =
       getD-set-other (puts l at v n) (at n) j (v n) d (h n (omega arith)) ∙ getD-puts-other n j d (λ i p. h i (omega arith))
+
+  -- a place that one store hits
+  pub getD-puts-same : (n m : ℕ) (d : A) → m < n → at m < length l → ((i j : ℕ) → i < n → j < n → at i ≡ at j → i ≡ j) → getD (puts l at v n) (at m) d ≡ v m
+  unfolding puts
+  getD-puts-same zero m d h b inj = absurd (not-suc-le-zero h)
+  getD-puts-same (suc n) m d h b inj =
+      ⊎-elim
+      (λ p. getD-set-other (puts l at v n) (at n) (at m) (v n) d (λ q. let z = inj m n (omega arith) (omega arith) q in omega arith)
+      ∙ getD-puts-same n m d p b (λ i j x y. inj i j (omega arith) (omega arith)))
+      (λ p. let q : m ≡ n = omega arith in rw q (getD-set-same (puts l at v n) (at n) (v n) d (rw (length-puts n, ← q) b)))
+      (lt-or-ge m n)
 
 -- ---- the first number that passes a test
 pub firstOf-found : (n i : ℕ) (t : ℕ → Bool) → i < n → ((k : ℕ) → k < i → t k ≡ false) → t i ≡ true → firstOf n t ≡ i

@@ -20,12 +20,6 @@ use Rattle.routes.specs.Routes.{limitOf}
 use Rattle.routes.specs.Search.{Linked}
 use Rattle.routes.proofs.Routes.{limit-same}
 
--- what stands in a list is read alike with any default
-pub getD-any : (l : List ℕ) (k d e : ℕ) → k < length l → getD l k d ≡ getD l k e
-getD-any [] k d e h = absurd (omega arith)
-getD-any (a ∷ l) zero d e h = refl
-getD-any (a ∷ l) (suc k) d e h = getD-any l k d e (omega arith)
-
 -- region r has a parent
 abbrev pub Child : List ℕ → ℕ → Type 0
 Child parents r = getD parents r 255 ≡ 255 → ⊥

@@ -1,4 +1,5 @@
 -- `routes::power_of` meets its contract. Assumes nothing.
+use Rattle.laws.proofs.Lists.{getD-any}
 use borrow.Author.Needs.{needs}
 use native.Mathlib.Omega.{arith}
 use lib.IntN.{pos}
@@ -8,7 +9,6 @@ use mir.Syntax.{w32}
 use mir.Val.{SFits}
 use mir.Facts.{toZ-ofZ}
 use Rattle.routes.specs.Links.{powerOf}
-use Rattle.routes.proofs.Links.{getD-any}
 use Rattle.routes.proofs.power_of.Statement.{statement}
 use Rattle.routes.proofs.power_of.Tie as tie
 

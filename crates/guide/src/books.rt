@@ -1,0 +1,409 @@
+// Books played end to end: the guide's worked books and cases that tell readings apart.
+use book::opening::open;
+use book::record::{Answer, Book, Refusal, Settings};
+use book::report::{Reading, report};
+use book::setting::{set_limits, set_threshold};
+use entries::{Publication, enter};
+use pricing::text::amount_text;
+
+pub fn say(text: &[u8]) {
+    io::write_all(1, text);
+}
+
+fn amount(cents: i64) {
+    let mut buffer = [0u8; 24];
+    let text = amount_text(cents, &mut buffer);
+    io::write_all(1, b" ");
+    io::write_all(1, text);
+}
+
+fn price(cents: i32) {
+    amount(cents as i64);
+}
+
+fn number(n: u64) {
+    io::write_all(1, b" ");
+    io::print_decimal(1, n);
+}
+
+// The number and place of a refusal.
+fn refusal(r: Refusal) {
+    say(b" refused");
+    match r {
+        Refusal::Invalid => number(10),
+        Refusal::Length => number(11),
+        Refusal::Full => number(12),
+        Refusal::Number => number(13),
+        Refusal::Kind => number(14),
+        Refusal::Mark(place) => at(15, place),
+        Refusal::Price(place) => at(16, place),
+        Refusal::Factor(place) => at(17, place),
+        Refusal::Threshold => number(18),
+        Refusal::Limits => number(19),
+        Refusal::Setting => number(20),
+        Refusal::Market => number(21),
+        Refusal::Sums => number(22),
+        Refusal::Buffer => number(23),
+        Refusal::ImageLength => number(24),
+        Refusal::ImageKind => number(25),
+        Refusal::ImageField => number(26),
+        Refusal::ImageTotal => number(27),
+    }
+}
+
+fn at(n: u64, place: usize) {
+    number(n);
+    say(b" at");
+    number(place as u64);
+}
+
+// A book opened over a ring, or the closed book and its refusal.
+pub fn opened(settings: Settings, ring: &mut [i32]) -> Book {
+    let o = open(settings, ring);
+    let answer = o.answer;
+    match answer {
+        Answer::Accepted => {}
+        Answer::Refused(r) => {
+            say(b"open");
+            refusal(r);
+            say(b"\n");
+        }
+    }
+    o.book
+}
+
+// The settings of the guide's books: threshold 95,000 cents and limits of 60,000.
+fn guide(regions: u8, services: u8, window: u16, first: u16, parents: [u8; 8]) -> Settings {
+    Settings {
+        regions,
+        services,
+        window,
+        halves: 1,
+        first,
+        parents,
+        threshold: 95000,
+        cap: 60000,
+        floor: -60000,
+    }
+}
+
+// An entry, and what it publishes: the prices and the count, or the refusal.
+pub fn play(
+    book: Book,
+    ring: &mut [i32],
+    number_lent: u32,
+    prices: &[i32],
+    marked: &[u8],
+    flows: &[i32],
+    factors: &[u32],
+    schedule: &[i32],
+    table: &mut [i32],
+) -> Book {
+    let e = enter(
+        book,
+        ring,
+        number_lent,
+        0,
+        prices,
+        marked,
+        flows,
+        factors,
+        schedule,
+        table,
+    );
+    let publication = e.publication;
+    match publication {
+        Publication::Count(n) => {
+            say(b"published");
+            prices_of(table);
+            say(b" count");
+            number(n as u64);
+        }
+        Publication::Refused(r) => {
+            say(b"entry");
+            refusal(r);
+        }
+    }
+    say(b"\n");
+    e.book
+}
+
+fn prices_of(table: &[i32]) {
+    let mut k: usize = 0;
+    while k < table.len() {
+        price(table[k]);
+        k += 1;
+    }
+}
+
+// A report of a market: sum, prices counted, mark, entries taken.
+fn show(book: Book, region: u32, market: u32) -> Book {
+    let r = report(book, region, market);
+    let reading = r.reading;
+    say(b"report");
+    match reading {
+        Reading::Values {
+            sum,
+            counted,
+            mark,
+            entries,
+        } => {
+            amount(sum);
+            number(counted as u64);
+            number(mark as u64);
+            number(entries as u64);
+        }
+        Reading::Refused(x) => refusal(x),
+    }
+    say(b"\n");
+    r.book
+}
+
+fn chain() -> [u8; 8] {
+    let mut all = [255u8; 8];
+    all[1] = 0;
+    all[2] = 1;
+    all
+}
+
+// The guide's three regions in a chain: entry 0 makes A administered, and entry 1 has the flows and prices given.
+fn three(prices: [i32; 3], flows: [i32; 3]) {
+    let mut ring = [7i32; 3];
+    let mut table = [0i32; 3];
+    let none = [0u8; 3];
+    let still = [0i32; 3];
+    let factors = [10000u32, 11000, 10800];
+    let schedule = [0i32; 6];
+    let start = [100000i32, 90000, 85000];
+    let b = opened(guide(3, 0, 1, 0, chain()), &mut ring);
+    let c = play(
+        b,
+        &mut ring,
+        0,
+        &start,
+        &none,
+        &still,
+        &factors,
+        &schedule,
+        &mut table,
+    );
+    play(
+        c,
+        &mut ring,
+        1,
+        &prices,
+        &none,
+        &flows,
+        &factors,
+        &schedule,
+        &mut table,
+    );
+}
+
+fn three_regions() {
+    say(b"three regions\n");
+    three([100000, 90000, 85000], [0, 1, 1]);
+    three([100000, 90000, 85000], [0, 0, 1]);
+    three([-70000, -90000, -85000], [0, -1, -1]);
+    // a limit passes a region whose price it does not change
+    three([100000, 10, 85000], [0, 1, 1]);
+    // a floor limit does not travel upstream
+    three([-70000, -90000, -85000], [0, 1, 1]);
+    // exactly at the cap is a source, a cent below is not
+    three([60000, 90000, 85000], [0, 1, 1]);
+    three([59999, 90000, 85000], [0, 1, 1]);
+    // the least flow
+    three([-70000, -90000, -85000], [0, -2147483648, -2147483648]);
+}
+
+// One region, energy alone: an entry at a price, marked or not.
+fn one(book: Book, ring: &mut [i32], n: u32, cents: i32, mark: u8, scheduled: i32) -> Book {
+    let prices = [cents];
+    let marked = [mark];
+    let flows = [0i32];
+    let factors = [0u32];
+    let schedule = [scheduled, 0];
+    let mut table = [0i32];
+    let e = enter(
+        book,
+        ring,
+        n,
+        0,
+        &prices,
+        &marked,
+        &flows,
+        &factors,
+        &schedule,
+        &mut table,
+    );
+    e.book
+}
+
+// The guide's region: 100,000, four entries at 50,000, the sixth as given; a report after each of the last three.
+fn six(sixth: i32) {
+    let mut ring = [0i32; 1];
+    let b0 = opened(guide(1, 0, 1, 0, [255; 8]), &mut ring);
+    let b1 = one(b0, &mut ring, 0, 100000, 0, 0);
+    let b2 = show(b1, 0, 0);
+    let b3 = one(b2, &mut ring, 1, 50000, 0, 0);
+    let b4 = one(b3, &mut ring, 2, 50000, 0, 0);
+    let b5 = one(b4, &mut ring, 3, 50000, 0, 0);
+    let b6 = one(b5, &mut ring, 4, 50000, 0, 0);
+    let b7 = show(b6, 0, 0);
+    let b8 = one(b7, &mut ring, 5, sixth, 0, 0);
+    show(b8, 0, 0);
+}
+
+// A window of two: 100, 200, a marked interval, 400.
+fn window() {
+    let mut ring = [0i32; 2];
+    let b0 = opened(guide(1, 0, 2, 0, [255; 8]), &mut ring);
+    let b1 = one(b0, &mut ring, 0, 100, 0, 0);
+    let b2 = one(b1, &mut ring, 1, 200, 0, 0);
+    let b3 = one(b2, &mut ring, 2, 2147483647, 1, 5);
+    let b4 = show(b3, 0, 0);
+    let b5 = one(b4, &mut ring, 3, 400, 0, 0);
+    show(b5, 0, 0);
+}
+
+fn one_region() {
+    say(b"one region\n");
+    six(50000);
+    six(95000);
+    six(95001);
+    window();
+}
+
+// Settings act from the next entry, on marked regions' periods too; refused settings keep the book.
+fn settings() {
+    say(b"settings\n");
+    let mut ring = [0i32; 1];
+    let b0 = opened(guide(1, 0, 1, 0, [255; 8]), &mut ring);
+    let b1 = one(b0, &mut ring, 0, 60000, 0, 0);
+    let c1 = set_threshold(b1, 50000);
+    let b2 = show(c1.book, 0, 0);
+    let b3 = one(b2, &mut ring, 1, 0, 1, 0);
+    let b4 = show(b3, 0, 0);
+    let c2 = set_threshold(b4, 0);
+    let c3 = set_limits(c2.book, 5, 0);
+    let c4 = set_threshold(c3.book, 70000);
+    let b5 = one(c4.book, &mut ring, 2, 0, 1, 0);
+    let b6 = one(b5, &mut ring, 3, 0, 1, 0);
+    let b7 = one(b6, &mut ring, 4, 0, 1, 0);
+    let b8 = show(b7, 0, 0);
+    let b9 = one(b8, &mut ring, 5, 0, 1, 0);
+    let b10 = show(b9, 0, 0);
+    show(b10, 0, 1);
+}
+
+// A ring that others changed: the sum moves by the price read there, and the next call says 10.
+fn changed_ring() {
+    say(b"a changed ring\n");
+    let mut ring = [0i32; 1];
+    let b0 = opened(guide(1, 0, 1, 0, [255; 8]), &mut ring);
+    let b1 = one(b0, &mut ring, 0, 10000000, 0, 0);
+    let mut b2 = b1;
+    b2.sums[0] = 20160000000;
+    ring[0] = -2147483648;
+    let b3 = one(b2, &mut ring, 1, 10000000, 0, 0);
+    amount(b3.sums[0]);
+    say(b"\n");
+    show(b3, 0, 0);
+}
+
+// One region with two services: a service administered caps services alone; energy administered holds all.
+fn services() {
+    say(b"services\n");
+    let mut ring = [0i32; 3];
+    let mut table = [0i32; 3];
+    let none = [0u8];
+    let flows = [0i32];
+    let factors = [0u32];
+    let schedule = [0i32; 6];
+    let first = [0i32, 100000, 0];
+    let second = [90000i32, 10, 70000];
+    let third = [100000i32, 0, 0];
+    let fourth = [-70000i32, 70000, 70000];
+    let b0 = opened(guide(1, 2, 1, 0, [255; 8]), &mut ring);
+    let b1 = play(
+        b0, &mut ring, 0, &first, &none, &flows, &factors, &schedule, &mut table,
+    );
+    let b2 = play(
+        b1, &mut ring, 1, &second, &none, &flows, &factors, &schedule, &mut table,
+    );
+    let b3 = play(
+        b2, &mut ring, 2, &third, &none, &flows, &factors, &schedule, &mut table,
+    );
+    play(
+        b3, &mut ring, 3, &fourth, &none, &flows, &factors, &schedule, &mut table,
+    );
+}
+
+// A marked region: a scheduled service is held at 0, and the count compares with the effective price.
+fn suspended() {
+    say(b"a suspended region\n");
+    let mut ring = [0i32; 2];
+    let mut table = [0i32; 2];
+    let marked = [1u8];
+    let flows = [0i32];
+    let factors = [0u32];
+    let prices = [0i32; 2];
+    let low = [-70000i32, 0, -70000, 0];
+    let high = [1000000i32, 0, 5, 0];
+    let b0 = opened(guide(1, 1, 1, 0, [255; 8]), &mut ring);
+    let b1 = play(
+        b0, &mut ring, 0, &prices, &marked, &flows, &factors, &low, &mut table,
+    );
+    play(
+        b1, &mut ring, 1, &prices, &marked, &flows, &factors, &high, &mut table,
+    );
+}
+
+fn refusals() {
+    say(b"refusals\n");
+    let mut ring = [0i32; 3];
+    let mut wrong = [0i32; 2];
+    let mut table = [0i32; 3];
+    let prices = [0i32; 3];
+    let dear = [0i32, 10000001, 0];
+    let none = [0u8; 3];
+    let two = [0u8, 0, 2];
+    let flows = [0i32; 3];
+    let factors = [0u32, 9999, 0];
+    let fair = [0u32, 10000, 20000];
+    let schedule = [0i32; 6];
+    let b0 = opened(guide(3, 0, 1, 6, chain()), &mut ring);
+    let b1 = show(b0, 0, 0);
+    let b2 = opened(guide(3, 0, 1, 0, chain()), &mut wrong);
+    let b3 = show(b2, 0, 0);
+    let b4 = opened(guide(3, 0, 1, 0, chain()), &mut ring);
+    let b5 = play(
+        b4, &mut wrong, 0, &dear, &two, &flows, &factors, &schedule, &mut table,
+    );
+    let b6 = play(
+        b5, &mut ring, 1, &dear, &two, &flows, &factors, &schedule, &mut table,
+    );
+    let b7 = play(
+        b6, &mut ring, 0, &dear, &two, &flows, &factors, &schedule, &mut table,
+    );
+    let b8 = play(
+        b7, &mut ring, 0, &dear, &none, &flows, &factors, &schedule, &mut table,
+    );
+    let b9 = play(
+        b8, &mut ring, 0, &prices, &none, &flows, &factors, &schedule, &mut table,
+    );
+    let b10 = play(
+        b9, &mut ring, 0, &prices, &none, &flows, &fair, &schedule, &mut table,
+    );
+    show(b10, 3, 0);
+}
+
+pub fn all() {
+    three_regions();
+    one_region();
+    settings();
+    changed_ring();
+    services();
+    suspended();
+    refusals();
+}
