@@ -1,9 +1,15 @@
 // Books played end to end: the guide's worked books and cases that tell readings apart.
 use book::opening::open;
-use book::record::{Answer, Book, Refusal, Settings};
-use book::report::{Reading, report};
-use book::setting::{set_limits, set_threshold};
-use entries::{Publication, enter};
+use book::record::Answer;
+use book::record::Book;
+use book::record::Refusal;
+use book::record::Settings;
+use book::report::Reading;
+use book::report::report;
+use book::setting::set_limits;
+use book::setting::set_threshold;
+use entries::Publication;
+use entries::enter;
 use pricing::text::amount_text;
 
 pub fn say(text: &[u8]) {
@@ -167,7 +173,7 @@ fn chain() -> [u8; 8] {
 }
 
 // The guide's three regions in a chain: entry 0 makes A administered, and entry 1 has the flows and prices given.
-fn three(prices: [i32; 3], flows: [i32; 3]) {
+fn three(prices: &[i32], flows: &[i32]) {
     let mut ring = [7i32; 3];
     let mut table = [0i32; 3];
     let none = [0u8; 3];
@@ -191,9 +197,9 @@ fn three(prices: [i32; 3], flows: [i32; 3]) {
         c,
         &mut ring,
         1,
-        &prices,
+        prices,
         &none,
-        &flows,
+        flows,
         &factors,
         &schedule,
         &mut table,
@@ -202,18 +208,18 @@ fn three(prices: [i32; 3], flows: [i32; 3]) {
 
 fn three_regions() {
     say(b"three regions\n");
-    three([100000, 90000, 85000], [0, 1, 1]);
-    three([100000, 90000, 85000], [0, 0, 1]);
-    three([-70000, -90000, -85000], [0, -1, -1]);
+    three(&[100000, 90000, 85000], &[0, 1, 1]);
+    three(&[100000, 90000, 85000], &[0, 0, 1]);
+    three(&[-70000, -90000, -85000], &[0, -1, -1]);
     // a limit passes a region whose price it does not change
-    three([100000, 10, 85000], [0, 1, 1]);
+    three(&[100000, 10, 85000], &[0, 1, 1]);
     // a floor limit does not travel upstream
-    three([-70000, -90000, -85000], [0, 1, 1]);
+    three(&[-70000, -90000, -85000], &[0, 1, 1]);
     // exactly at the cap is a source, a cent below is not
-    three([60000, 90000, 85000], [0, 1, 1]);
-    three([59999, 90000, 85000], [0, 1, 1]);
+    three(&[60000, 90000, 85000], &[0, 1, 1]);
+    three(&[59999, 90000, 85000], &[0, 1, 1]);
     // the least flow
-    three([-70000, -90000, -85000], [0, -2147483648, -2147483648]);
+    three(&[-70000, -90000, -85000], &[0, -2147483648, -2147483648]);
 }
 
 // One region, energy alone: an entry at a price, marked or not.
@@ -326,16 +332,48 @@ fn services() {
     let fourth = [-70000i32, 70000, 70000];
     let b0 = opened(guide(1, 2, 1, 0, [255; 8]), &mut ring);
     let b1 = play(
-        b0, &mut ring, 0, &first, &none, &flows, &factors, &schedule, &mut table,
+        b0,
+        &mut ring,
+        0,
+        &first,
+        &none,
+        &flows,
+        &factors,
+        &schedule,
+        &mut table,
     );
     let b2 = play(
-        b1, &mut ring, 1, &second, &none, &flows, &factors, &schedule, &mut table,
+        b1,
+        &mut ring,
+        1,
+        &second,
+        &none,
+        &flows,
+        &factors,
+        &schedule,
+        &mut table,
     );
     let b3 = play(
-        b2, &mut ring, 2, &third, &none, &flows, &factors, &schedule, &mut table,
+        b2,
+        &mut ring,
+        2,
+        &third,
+        &none,
+        &flows,
+        &factors,
+        &schedule,
+        &mut table,
     );
     play(
-        b3, &mut ring, 3, &fourth, &none, &flows, &factors, &schedule, &mut table,
+        b3,
+        &mut ring,
+        3,
+        &fourth,
+        &none,
+        &flows,
+        &factors,
+        &schedule,
+        &mut table,
     );
 }
 
@@ -352,10 +390,26 @@ fn suspended() {
     let high = [1000000i32, 0, 5, 0];
     let b0 = opened(guide(1, 1, 1, 0, [255; 8]), &mut ring);
     let b1 = play(
-        b0, &mut ring, 0, &prices, &marked, &flows, &factors, &low, &mut table,
+        b0,
+        &mut ring,
+        0,
+        &prices,
+        &marked,
+        &flows,
+        &factors,
+        &low,
+        &mut table,
     );
     play(
-        b1, &mut ring, 1, &prices, &marked, &flows, &factors, &high, &mut table,
+        b1,
+        &mut ring,
+        1,
+        &prices,
+        &marked,
+        &flows,
+        &factors,
+        &high,
+        &mut table,
     );
 }
 
@@ -378,22 +432,70 @@ fn refusals() {
     let b3 = show(b2, 0, 0);
     let b4 = opened(guide(3, 0, 1, 0, chain()), &mut ring);
     let b5 = play(
-        b4, &mut wrong, 0, &dear, &two, &flows, &factors, &schedule, &mut table,
+        b4,
+        &mut wrong,
+        0,
+        &dear,
+        &two,
+        &flows,
+        &factors,
+        &schedule,
+        &mut table,
     );
     let b6 = play(
-        b5, &mut ring, 1, &dear, &two, &flows, &factors, &schedule, &mut table,
+        b5,
+        &mut ring,
+        1,
+        &dear,
+        &two,
+        &flows,
+        &factors,
+        &schedule,
+        &mut table,
     );
     let b7 = play(
-        b6, &mut ring, 0, &dear, &two, &flows, &factors, &schedule, &mut table,
+        b6,
+        &mut ring,
+        0,
+        &dear,
+        &two,
+        &flows,
+        &factors,
+        &schedule,
+        &mut table,
     );
     let b8 = play(
-        b7, &mut ring, 0, &dear, &none, &flows, &factors, &schedule, &mut table,
+        b7,
+        &mut ring,
+        0,
+        &dear,
+        &none,
+        &flows,
+        &factors,
+        &schedule,
+        &mut table,
     );
     let b9 = play(
-        b8, &mut ring, 0, &prices, &none, &flows, &factors, &schedule, &mut table,
+        b8,
+        &mut ring,
+        0,
+        &prices,
+        &none,
+        &flows,
+        &factors,
+        &schedule,
+        &mut table,
     );
     let b10 = play(
-        b9, &mut ring, 0, &prices, &none, &flows, &fair, &schedule, &mut table,
+        b9,
+        &mut ring,
+        0,
+        &prices,
+        &none,
+        &flows,
+        &fair,
+        &schedule,
+        &mut table,
     );
     show(b10, 3, 0);
 }

@@ -1,5 +1,7 @@
 // Limits over links: eight regions in a chain, a star, two sources whose limits meet, rounding, and marked regions.
-use crate::books::{opened, play, say};
+use crate::books::opened;
+use crate::books::play;
+use crate::books::say;
 use book::record::Settings;
 
 fn settings(regions: u8, parents: [u8; 8], cap: i32, floor: i32) -> Settings {
@@ -31,10 +33,26 @@ fn eight(price: i32, flow: i32, cap: i32, floor: i32) {
     let flows = [flow; 8];
     let b = opened(settings(8, parents, cap, floor), &mut ring);
     let c = play(
-        b, &mut ring, 0, &first, &none, &still, &factors, &schedule, &mut table,
+        b,
+        &mut ring,
+        0,
+        &first,
+        &none,
+        &still,
+        &factors,
+        &schedule,
+        &mut table,
     );
     play(
-        c, &mut ring, 1, &prices, &none, &flows, &factors, &schedule, &mut table,
+        c,
+        &mut ring,
+        1,
+        &prices,
+        &none,
+        &flows,
+        &factors,
+        &schedule,
+        &mut table,
     );
 }
 
@@ -52,15 +70,31 @@ fn star() {
     let prices = [90000i32, 90000, 90000, 100000];
     let b = opened(settings(4, parents, 60000, -60000), &mut ring);
     let c = play(
-        b, &mut ring, 0, &first, &none, &still, &factors, &schedule, &mut table,
+        b,
+        &mut ring,
+        0,
+        &first,
+        &none,
+        &still,
+        &factors,
+        &schedule,
+        &mut table,
     );
     play(
-        c, &mut ring, 1, &prices, &none, &flows, &factors, &schedule, &mut table,
+        c,
+        &mut ring,
+        1,
+        &prices,
+        &none,
+        &flows,
+        &factors,
+        &schedule,
+        &mut table,
     );
 }
 
 // Three regions in a chain, A and C administered: entry 1 with these prices, marks, flows and schedule.
-fn two_sources(prices: [i32; 3], marked: [u8; 3], flows: [i32; 3], scheduled: i32) {
+fn two_sources(prices: &[i32], marked: &[u8], flows: &[i32], scheduled: i32) {
     let parents = [255u8, 0, 1, 255, 255, 255, 255, 255];
     let mut ring = [0i32; 3];
     let mut table = [0i32; 3];
@@ -71,15 +105,31 @@ fn two_sources(prices: [i32; 3], marked: [u8; 3], flows: [i32; 3], scheduled: i3
     let first = [100000i32, 0, 100000];
     let b = opened(settings(3, parents, 60000, -60000), &mut ring);
     let c = play(
-        b, &mut ring, 0, &first, &none, &still, &factors, &schedule, &mut table,
+        b,
+        &mut ring,
+        0,
+        &first,
+        &none,
+        &still,
+        &factors,
+        &schedule,
+        &mut table,
     );
     play(
-        c, &mut ring, 1, &prices, &marked, &flows, &factors, &schedule, &mut table,
+        c,
+        &mut ring,
+        1,
+        prices,
+        marked,
+        flows,
+        &factors,
+        &schedule,
+        &mut table,
     );
 }
 
 // Two regions, A administered: a quotient and a product that end in a half.
-fn halves(cap: i32, floor: i32, factor: u32, prices: [i32; 2], flow: i32) {
+fn halves(cap: i32, floor: i32, factor: u32, prices: &[i32], flow: i32) {
     let parents = [255u8, 0, 255, 255, 255, 255, 255, 255];
     let mut ring = [0i32; 2];
     let mut table = [0i32; 2];
@@ -91,10 +141,26 @@ fn halves(cap: i32, floor: i32, factor: u32, prices: [i32; 2], flow: i32) {
     let first = [100000i32, 0];
     let b = opened(settings(2, parents, cap, floor), &mut ring);
     let c = play(
-        b, &mut ring, 0, &first, &none, &still, &factors, &schedule, &mut table,
+        b,
+        &mut ring,
+        0,
+        &first,
+        &none,
+        &still,
+        &factors,
+        &schedule,
+        &mut table,
     );
     play(
-        c, &mut ring, 1, &prices, &none, &flows, &factors, &schedule, &mut table,
+        c,
+        &mut ring,
+        1,
+        prices,
+        &none,
+        &flows,
+        &factors,
+        &schedule,
+        &mut table,
     );
 }
 
@@ -105,13 +171,13 @@ pub fn all() {
     eight(-10000000, -1, 10000000, -10000000);
     star();
     // limits meet in the middle, a cap limit and a floor limit
-    two_sources([100000, 90000, -90000], [0, 0, 0], [0, 1, 1], 0);
-    two_sources([100000, -90000, -90000], [0, 0, 0], [0, 1, 1], 0);
+    two_sources(&[100000, 90000, -90000], &[0, 0, 0], &[0, 1, 1], 0);
+    two_sources(&[100000, -90000, -90000], &[0, 0, 0], &[0, 1, 1], 0);
     // two cap limits meet: the smaller binds
-    two_sources([100000, 90000, 100000], [0, 0, 0], [0, 1, -1], 0);
+    two_sources(&[100000, 90000, 100000], &[0, 0, 0], &[0, 1, -1], 0);
     // a marked source, and a marked region that a limit binds
-    two_sources([0, 90000, 0], [1, 0, 0], [0, 1, 0], 70000);
-    two_sources([100000, 0, 0], [0, 1, 0], [0, 1, 0], 70000);
-    halves(60001, -60001, 20000, [100000, 95000], 1);
-    halves(60001, -60001, 15000, [-95000, -95000], -1);
+    two_sources(&[0, 90000, 0], &[1, 0, 0], &[0, 1, 0], 70000);
+    two_sources(&[100000, 0, 0], &[0, 1, 0], &[0, 1, 0], 70000);
+    halves(60001, -60001, 20000, &[100000, 95000], 1);
+    halves(60001, -60001, 15000, &[-95000, -95000], -1);
 }

@@ -1,9 +1,9 @@
 // Checks the worked cases of document 01 that are not marked (*), and more vectors, against the stored output.
 mod amounts;
-mod indexes;
-mod schedules;
 mod books;
+mod indexes;
 mod links;
+mod schedules;
 
 fn main() {
     amounts::all();

@@ -1,4 +1,4 @@
--- A limit as a number binds a price as the limit itself does. Assumes nothing.
+-- The limits of a book over an entry's links: their ranges, the search that finds them, and the numbers that bind a price as they do. Assumes nothing.
 use mathlib.Core.Path.{_≡_, refl, sym, ap, _∙_, subst}
 use mathlib.Core.Bool.{Bool, true, false, _&&_}
 use mathlib.Core.List.{List, [], _∷_}
@@ -43,22 +43,18 @@ bound-open caps e = rw e
 pub bound-at : (caps : Bool) {l : Limit} {z : ℤ} → l ≡ Bound z → z ≡ boundOf caps l
 bound-at caps e = rw e
 
--- ---- the smaller and the larger of two prices
+-- ---- one of two 32-bit numbers
+pub pick-fits : (b : Bool) {x y : ℤ} → SFits w32 x → SFits w32 y → SFits w32 (pick b x y)
+pick-fits true f g = f
+pick-fits false f g = g
+
 pub min-fits : {x y : ℤ} → SFits w32 x → SFits w32 y → SFits w32 (minZ x y)
 unfolding minZ
-min-fits {x} {y} f g = go (leZ x y)
-  where
-    go : (t : Bool) → SFits w32 (pick t x y)
-    go true = f
-    go false = g
+min-fits {x} {y} f g = pick-fits (leZ x y) f g
 
 pub max-fits : {x y : ℤ} → SFits w32 x → SFits w32 y → SFits w32 (maxZ x y)
 unfolding maxZ
-max-fits {x} {y} f g = go (leZ x y)
-  where
-    go : (t : Bool) → SFits w32 (pick t y x)
-    go true = g
-    go false = f
+max-fits {x} {y} f g = pick-fits (leZ x y) g f
 
 -- ---- the number binds as the limit does
 pub most-by : (l : Limit) (x : ℤ) → SFits w32 x → minZ x (boundOf true l) ≡ atMost l x
@@ -170,10 +166,14 @@ module _ (t : Terms) (ok : Terms-ok t) (flows : List ℤ) (factors : List ℕ) (
 
     -- a cap limit stays above 0 and a floor limit below
     pub cap-above : {z : ℤ} → limitBy true t flows factors test x ≡ Bound z → pos 1 ≤ℤ z
-    cap-above e = cap-kept (powerOf (t .parents) flows factors) (t .regions) (ok .regions .1) linked x here _ (λ y i. source-kept (λ z. pos 1 ≤ℤ z) (t .cap) (cap-least t ok) (test y)) e
+    cap-above e =
+        cap-kept (powerOf (t .parents) flows factors) (t .regions) (ok .regions .1) linked x here _
+        (λ y i. source-kept (λ z. pos 1 ≤ℤ z) (t .cap) (cap-least t ok) (test y)) e
 
     pub floor-below : {z : ℤ} → limitBy false t flows factors test x ≡ Bound z → z ≤ℤ negsuc 0
-    floor-below e = floor-kept (powerOf (t .parents) flows factors) (t .regions) (ok .regions .1) linked x here _ (λ y i. source-kept (λ z. z ≤ℤ negsuc 0) (t .floor) (floor-most t ok) (test y)) e
+    floor-below e =
+        floor-kept (powerOf (t .parents) flows factors) (t .regions) (ok .regions .1) linked x here _
+        (λ y i. source-kept (λ z. z ≤ℤ negsuc 0) (t .floor) (floor-most t ok) (test y)) e
 
 -- ---- the search, by the table of powers
 module _ (t : Terms) (ok : Terms-ok t) (flows : List ℤ) (factors : List ℕ) (links : Links-ok t flows factors)
@@ -192,7 +192,8 @@ module _ (t : Terms) (ok : Terms-ok t) (flows : List ℤ) (factors : List ℕ) (
     few = omega arith;
   }
 
-  pub search-is : (hits : List Bool) (x : ℕ) → x < t .regions → limitOf caps (λ x y. getD powers (8 * x + y) 0) (own hits bound) (t .regions) x ≡ limitBy caps t flows factors (λ y. getD hits y false) x
+  pub search-is : (hits : List Bool) (x : ℕ) → x < t .regions
+      → limitOf caps (λ x y. getD powers (8 * x + y) 0) (own hits bound) (t .regions) x ≡ limitBy caps t flows factors (λ y. getD hits y false) x
   search-is hits x h = limit-same caps _ _ _ _ (t .regions) power-at (λ y i. rw b) x h
 
 -- a test that none below n passes
@@ -201,12 +202,16 @@ none-passes n test e k h = by-test (test k) (λ q. absurd (true-is (sym e ∙ at
 
 -- ---- every region's bound
 module _ (caps : Bool) (t : Terms) (ok : Terms-ok t) (flows : List ℤ) (factors : List ℕ) where
-  pub all-open : Links-ok t flows factors → (hits : List Bool) → anyBelow 8 (λ x. getD hits x false) ≡ false → replicate 8 (boundOf caps Open) ≡ boundsOf caps t hits flows factors
+  pub all-open : Links-ok t flows factors → (hits : List Bool) → anyBelow 8 (λ x. getD hits x false) ≡ false
+      → replicate 8 (boundOf caps Open) ≡ boundsOf caps t hits flows factors
   unfolding run
   all-open links hits none = tabulate-same 8 _ _ (λ k h. go k (ltb k (t .regions)) refl)
     where
-      go : (k : ℕ) (b : Bool) → ltb k (t .regions) ≡ b → boundOf caps Open ≡ pick b (boundOf caps (limitBy caps t flows factors (λ x. getD hits x false) k)) (boundOf caps Open)
-      go k true e = rw (unbound t ok flows factors links (λ x. getD hits x false) k (ltb-true k (t .regions) e) caps (λ y i. none-passes 8 (λ x. getD hits x false) none y (omega (arith, ok .regions .1))))
+      test : ℕ → Bool
+      test x = getD hits x false
+
+      go : (k : ℕ) (b : Bool) → ltb k (t .regions) ≡ b → boundOf caps Open ≡ pick b (boundOf caps (limitBy caps t flows factors test k)) (boundOf caps Open)
+      go k true e = rw (unbound t ok flows factors links test k (ltb-true k (t .regions) e) caps (λ y i. none-passes 8 test none y (omega (arith, ok .regions .1))))
       go k false e = refl
 
   bound-is : (marks : List ℕ) (o : Offer) (r : ℕ) → r < t .regions

@@ -18,13 +18,9 @@ use Rattle.publishing.specs.Capped.{administered, anyAdministered, cappe
 use Rattle.publishing.specs.Bounds.{hasLimit, limit}
 use Rattle.publishing.specs.Published.{published, publishedAt, changedAt}
 use Rattle.publishing.specs.Working.{boundOf, Small, publishedBy, regionPrice, regionPrices, regionCount}
-use Rattle.publishing.proofs.Limits.{min-fits, max-fits, most-by, least-by, bound-fits, source-fits, small}
+use Rattle.publishing.proofs.Limits.{pick-fits, min-fits, max-fits, most-by, least-by, bound-fits, source-fits, small}
 
 -- ---- prices stay 32-bit numbers
-pub pick-fits : (b : Bool) {x y : ℤ} → SFits w32 x → SFits w32 y → SFits w32 (pick b x y)
-pick-fits true f g = f
-pick-fits false f g = g
-
 pub held-fits : {x low high : ℤ} → SFits w32 x → SFits w32 low → SFits w32 high → SFits w32 (held x low high)
 unfolding held
 held-fits f g h = max-fits g (min-fits f h)
@@ -43,7 +39,8 @@ module _ (t : Terms) (ok : Terms-ok t) (marks : List ℕ) (e : Entry) (links : L
   unfolding limit
   limit-small caps = small t ok (e .flows) (e .factors) links (hasLimit caps t marks (e .offer)) region here caps
 
-  price-is : (market : ℕ) → market < t .markets → regionPrice t marks (e .offer) (boundOf true (limit true t marks e region)) (boundOf false (limit false t marks e region)) region market ≡ published t marks e region market
+  price-is : (market : ℕ) → market < t .markets
+      → regionPrice t marks (e .offer) (boundOf true (limit true t marks e region)) (boundOf false (limit false t marks e region)) region market ≡ published t marks e region market
   unfolding publishedBy published
   price-is market l =
       let f = capped-fits t ok marks region market (fits market l) in

@@ -47,7 +47,9 @@ returns : tie.Need-returns Inv-loop μ-loop
 returns c =
     let s = c .before .before .before .before in
     let a = s .args in
-    opened (c .before .before) ∙ all-open (a .caps) (a .terms) (s .pre .0) (a .flows .now) (a .factors .now) (s .pre .1) (a .sources) (sym (c .before .any-source .ensures) ∙ not-true (c .before .any-source .result) (c .if1 .taken))
+    opened (c .before .before)
+    ∙ all-open (a .caps) (a .terms) (s .pre .0) (a .flows .now) (a .factors .now) (s .pre .1) (a .sources)
+    (sym (c .before .any-source .ensures) ∙ not-true (c .before .any-source .result) (c .if1 .taken))
 
 powers-requires : tie.Need-powers-requires Inv-loop μ-loop
 powers-requires c κs = let s = c .before .before .before .before .before in let n = s .pre .1 .flows-size in (omega (arith, s .pre .0 .regions .1), s .pre .1 .factors-size ∙ sym n)
@@ -88,7 +90,8 @@ found : (c : tie.After-limit-of Inv-loop μ-loop)
 found c =
     let j = c .before .before .before .before .before in
     let s = j .before .before .before .before .before .before .before in
-    c .limit-of .ensures ∙ search-is (s .args .terms) (s .pre .0) (s .args .flows .now) (s .args .factors .now) (s .pre .1) (j .before .powers .ensures) (s .args .caps) (sourced j) (s .args .sources) _ (omega arith)
+    c .limit-of .ensures
+    ∙ search-is (s .args .terms) (s .pre .0) (s .args .flows .now) (s .args .factors .now) (s .pre .1) (j .before .powers .ensures) (s .args .caps) (sourced j) (s .args .sources) _ (omega arith)
 
 bound-of-requires-2 : tie.Need-bound-of-requires-2 Inv-loop μ-loop
 bound-of-requires-2 c κs =
@@ -123,8 +126,9 @@ returns-2 c =
     let s = c .before .before .before .before .before .before .before .before .before .before in
     let a = s .args in
     let e : l .r ≡ a .terms .regions = omega arith in
+    let bound : ℕ → ℤ = λ x. boundOf (a .caps) (limitBy (a .caps) (a .terms) (a .flows .now) (a .factors .now) (λ y. getD (a .sources) y false) x) in
     l .inv .2
-    ∙ rw e (ap (λ (d : List ℤ). tabulate (a .terms .regions) (λ x. boundOf (a .caps) (limitBy (a .caps) (a .terms) (a .flows .now) (a .factors .now) (λ y. getD (a .sources) y false) x)) ++ drop (a .terms .regions) d) (opened (c .before .before .before .before .before .before .before .before))
+    ∙ rw e (ap (λ (d : List ℤ). tabulate (a .terms .regions) bound ++ drop (a .terms .regions) d) (opened (c .before .before .before .before .before .before .before .before))
     ∙ tab-below _ (boundOf (a .caps) Open) 8 (a .terms .regions) (s .pre .0 .regions .1))
 
 pub bounds-spec : {M : Type 1} → statement M

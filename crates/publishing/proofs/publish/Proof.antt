@@ -81,15 +81,19 @@ turned c =
     let h : l .r < t .regions = omega arith in
     let f : SFits w32 (getD (c .before .before .before .before .before .before .before .before .bounds .result) (l .r) (pos 0)) = search needs in
     let g : SFits w32 (getD (c .before .before .before .before .before .before .before .bounds2 .result) (l .r) (pos 0)) = search needs in
-    let top = read-is true t ok (a .flows .now) (a .factors .now) (a .marks .now) _ (l .r) h (c .before .before .before .before .before .before .before .before .before .before .sources .ensures) (c .before .before .before .before .before .before .before .before .bounds .ensures) f in
-    let bottom = read-is false t ok (a .flows .now) (a .factors .now) (a .marks .now) _ (l .r) h (c .before .before .before .before .before .before .before .before .before .sources2 .ensures) (c .before .before .before .before .before .before .before .bounds2 .ensures) g in
+    let least = c .before .before .before .before .before .before .before in
+    let most = least .before in
+    let top = read-is true t ok (a .flows .now) (a .factors .now) (a .marks .now) _ (l .r) h (most .before .before .sources .ensures) (most .bounds .ensures) f in
+    let bottom = read-is false t ok (a .flows .now) (a .factors .now) (a .marks .now) _ (l .r) h (most .before .sources2 .ensures) (least .bounds2 .ensures) g in
     let n = c .publish-region .ensures in (
       counts-step _ _ _ (l .inv .3) (n .0 ∙ count-is t ok (a .marks .now) _ (s .pre .1 .0) (l .r) h (n .1 .1) top bottom),
       n .1 .0 ∙ rows-step _ _ _ _ _ _ (l .inv .2) (prices-are t ok (a .marks .now) _ (s .pre .1 .0) (l .r) h (n .1 .1) top bottom),
     )
 
 add-count : tie.Need-add-count Inv-loop μ-loop
-add-count c = let s = c .before .before .before .before .before .before .before .before .before .before .before .before .before .before in count-fits _ (turned (c .before) .0) (rows-small (s .args .terms) (s .pre .0 .0) _ (omega arith))
+add-count c =
+    let s = c .before .before .before .before .before .before .before .before .before .before .before .before .before .before in
+    count-fits _ (turned (c .before) .0) (rows-small (s .args .terms) (s .pre .0 .0) _ (omega arith))
 
 add-r : tie.Need-add-r Inv-loop μ-loop
 add-r c = omega (arith, near (c .before .before .before .before .before .before .before))

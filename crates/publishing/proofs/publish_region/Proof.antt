@@ -108,7 +108,8 @@ stored c =
     let f = source-fits (s .args .terms) (s .pre .0 .0) false in
     let g = source-fits (s .args .terms) (s .pre .0 .0) true in
     let w : SFits w32 (c .before .before .before .effective .result) = search needs in
-    found _ _ _ _ _ _ _ (c .before .before .before .before .before .before .before .before .before .administered .ensures) (c .before .before .before .before .before .before .before .before .any-administered .ensures)
+    let any = c .before .before .before .before .before .before .before .before in
+    found _ _ _ _ _ _ _ (any .before .administered .ensures) (any .any-administered .ensures)
     (c .before .before .before .effective .ensures) (rw (toZ-ofZ f, toZ-ofZ g, toZ-ofZ w) at (c .published .ensures))
 
 counted : (c : tie.After-one-if Inv-loop μ-loop)
@@ -134,8 +135,13 @@ loop-again : tie.Need-loop-again Inv-loop μ-loop
 loop-again c =
     let l = c .before .before .before .before .before .before .before .loop in
     let q : SFits w32 (c .before .published .result) = search needs in
-    let w : SFits w32 (c .before .before .before .before .effective .result) = search needs in
-    (omega arith, simp length-set (omega arith), run-step _ _ _ _ _ _ _ (omega arith) (toZ-ofZ q ∙ stored (c .before)) (l .inv .2), counted c, below-more _ _ (l .inv .4) (rw (c .before .before .before .before .effective .ensures) at w))
+    let w : SFits w32 (c .before .before .before .before .effective .result) = search needs in (
+      omega arith,
+      simp length-set (omega arith),
+      run-step _ _ _ _ _ _ _ (omega arith) (toZ-ofZ q ∙ stored (c .before)) (l .inv .2),
+      counted c,
+      below-more _ _ (l .inv .4) (rw (c .before .before .before .before .effective .ensures) at w),
+    )
 
 same-length : tie.Need-same-length Inv-loop μ-loop
 same-length c = search needs

@@ -1,19 +1,16 @@
+-- `guide::books::price`: a price is cast to 64 bits. Assumes nothing.
+use mir.Syntax.{w64}
+use Rattle.laws.proofs.Machine.{int, asks}
 use borrow.Author.Needs.{needs}
 use Rattle.guide.proofs.books.price.Statement.{statement}
 use Rattle.guide.proofs.books.price.Tie as tie
-use Rattle.guide.proofs.books.price.Reads as reads
-use Rattle.guide.proofs.books.price.Lts as lts
-use Rattle.guide.proofs.books.amount.Reads as amount-reads
 
--- src/books.rt:21:12
 cast-amount : tie.Need-cast-amount
-cast-amount c = ?
+cast-amount c = asks w64 (int (c .args .cents)) (search needs) tt
 
--- src/books.rt:21:5
 amount-requires : tie.Need-amount-requires
 amount-requires c κs = search needs
 
--- src/books.rt:20:1
 returns : tie.Need-returns
 returns c = search needs
 

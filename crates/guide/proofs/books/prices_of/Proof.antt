@@ -1,46 +1,39 @@
+-- `guide::books::prices_of` reads within the table and ends. Assumes nothing.
+use borrow.Author.Needs.{needs}
+use Prim.Native.Nat.{_≤_, _-_}
+use lib.ListN.{length}
 use Rattle.guide.proofs.books.prices_of.Statement.{statement}
 use Rattle.guide.proofs.books.prices_of.Tie as tie
-use Rattle.guide.proofs.books.prices_of.Reads as reads
-use Rattle.guide.proofs.books.prices_of.Lts as lts
-use Rattle.guide.proofs.books.price.Reads as price-reads
 
 abbrev Inv-loop : tie.InvT-loop
-Inv-loop table k₀ k = ?
+Inv-loop table k₀ k = k ≤ length table
 
 abbrev μ-loop : tie.MeasureT-loop
-μ-loop table k₀ k = ?
+μ-loop table k₀ k = length table - k
 
--- src/books.rt:133:5
 loop-holds : tie.Need-loop-holds Inv-loop μ-loop
-loop-holds c = ?
+loop-holds c = search needs
 
--- src/books.rt:134:15
 mul-price : tie.Need-mul-price Inv-loop μ-loop
-mul-price c = ?
+mul-price c = search needs
 
--- src/books.rt:134:15
 shared-slice-copy-out-price : tie.Need-shared-slice-copy-out-price Inv-loop μ-loop
-shared-slice-copy-out-price c = ?
+shared-slice-copy-out-price c = search needs
 
--- src/books.rt:134:9
 price-requires : tie.Need-price-requires Inv-loop μ-loop
-price-requires c κs = ?
+price-requires c κs = search needs
 
--- src/books.rt:135:9
 add-k : tie.Need-add-k Inv-loop μ-loop
-add-k c = ?
+add-k c = search needs
 
--- src/books.rt:133:5
 loop-less : tie.Need-loop-less Inv-loop μ-loop
-loop-less c = ?
+loop-less c = search needs
 
--- src/books.rt:133:5
 loop-again : tie.Need-loop-again Inv-loop μ-loop
-loop-again c = ?
+loop-again c = search needs
 
--- src/books.rt:131:1
 returns : tie.Need-returns Inv-loop μ-loop
-returns c = ?
+returns c = search needs
 
 pub prices-of-spec : {M : Type 1} → statement M
 prices-of-spec =
