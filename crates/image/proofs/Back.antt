@@ -26,6 +26,7 @@ use Rattle.image.proofs.Readings.{before, start, pricesAt, padded, none
 use Rattle.image.proofs.Markets.{price-fits, marketAt, at-below, at-place, prices-are, placed, placed-length, placed-used, placed-unused}
 use Rattle.image.proofs.Heads.{widths-length, widths-size, field-at, value-first, value-second, values-length}
 use Rattle.image.proofs.Typed.{Typed, threshold-fits, limits-fit, fit-of}
+use Rattle.image.proofs.Lengths.{head-length, length-counted, length-image}
 use Rattle.image.proofs.Books.{anewWith, book-values}
 use Rattle.image.proofs.Verdicts.{HeadOk, LoadOk, StoreOk}
 use Rattle.image.proofs.Prices.{MarketOk, prices-ok, laid}
@@ -53,19 +54,6 @@ module _ (b : Book) (ring : List ℤ) (n : ℕ) (t : Typed b) (ok : StoreOk b ri
   pub head-is : headFrom (imageOf b ring) ≡ anewWith b zeros
   head-is = head-back zeros
 
-  -- ---- the lengths
-  front : length (encode widths (values (lengthOf b) b)) ≡ headSize
-  front = length-encode widths (values (lengthOf b) b) (widths-length ∙ sym (values-length (lengthOf b) b (t .parents) (t .counts) (t .marks))) ∙ widths-size
-
-  length-counted : length (counted b ring) ≡ before b (marketCount b)
-  length-counted = length-joined (inOrder b ring) (countAt b) (marketCount b) 0 (λ q x y. length-run _ (countAt b q) 0)
-
-  pub length-image : length (imageOf b ring) ≡ lengthOf b
-  unfolding imageOf
-  length-image =
-      length-append (encode widths (values (lengthOf b) b)) (words (counted b ring))
-      ∙ omega (arith, front, length-words (counted b ring), length-counted, prices-are b v)
-
   -- ---- the prices
   market : (q : ℕ) → q < marketCount b → MarketOk b ring q
   market q h = prices-ok b ring (ok .prices) q h
@@ -77,10 +65,10 @@ module _ (b : Book) (ring : List ℤ) (n : ℕ) (t : Typed b) (ok : StoreOk b ri
       let e : getD (counted b ring) (before b q + i) (pos 0) ≡ getD (inOrder b ring q) i (pos 0) =
       joined-at (inOrder b ring) (countAt b) (pos 0) (marketCount b) 0 (λ p x y. length-run _ (countAt b p) 0) q i h (rw z k)
       ∙ ap (λ (p : ℕ). getD (inOrder b ring p) i (pos 0)) z in
-      let a : start b q + 4 * i ≡ length (encode widths (values (lengthOf b) b)) + 4 * (before b q + i) = omega (arith, front) in
+      let a : start b q + 4 * i ≡ length (encode widths (values (lengthOf b) b)) + 4 * (before b q + i) = omega (arith, head-length b t) in
       rw a
       (price-back (counted b ring) (encode widths (values (lengthOf b) b)) (before b q + i)
-      (rw e (price-fits (isEnergy (q % marketsOf (b .services))) (getD (inOrder b ring q) i (pos 0)) (market q h .ranged i k))) (omega (arith, length-counted, sum-below (countAt b) (marketCount b) q i h k))
+      (rw e (price-fits (isEnergy (q % marketsOf (b .services))) (getD (inOrder b ring q) i (pos 0)) (market q h .ranged i k))) (omega (arith, length-counted b ring, sum-below (countAt b) (marketCount b) q i h k))
       ∙ e)
 
   -- what is read of market q is what was written
@@ -107,13 +95,13 @@ module _ (b : Book) (ring : List ℤ) (n : ℕ) (t : Typed b) (ok : StoreOk b ri
   head-good : HeadOk (imageOf b ring)
   unfolding widths sizeOf firsts
   head-good = record {
-    long = omega (arith, length-image);
-    size = first-at 0 0 4 (omega arith) refl refl ∙ sym length-image;
+    long = omega (arith, length-image b ring v (head-length b t));
+    size = first-at 0 0 4 (omega arith) refl refl ∙ sym (length-image b ring v (head-length b t));
     kind = first-at 1 4 2 (omega arith) refl refl;
     zero = first-at 6 11 1 (omega arith) refl refl;
     zeros = second-at;
     book = rw head-is valid-head;
-    sized = rw head-is length-image;
+    sized = rw head-is (length-image b ring v (head-length b t));
   }
 
   none-bad : howMany (headFrom (imageOf b ring)) ≤ firstBad (imageOf b ring)

@@ -4,6 +4,7 @@ pub mod Readings
 pub mod Markets
 pub mod Heads
 pub mod Typed
+pub mod Lengths
 pub mod Books
 pub mod Verdicts
 pub mod Prices
@@ -13,3 +14,6 @@ pub mod Back
 pub mod Sameness
 pub mod Numbers
 pub mod RoundTrips
+pub mod Walks
+pub mod Rows
+pub mod Ways

@@ -28,7 +28,8 @@ use Rattle.image.proofs.Verdicts.{StoreOk, LoadOk, loaded-ok, ok-loaded
 use Rattle.image.proofs.Prices.{laid, length-laid}
 use Rattle.image.proofs.Anew.{order-anew, valid-anew}
 use Rattle.image.proofs.There.{valid-from, prices-from, ring-size-from, typed-from, length-from, store-from, there}
-use Rattle.image.proofs.Back.{length-image, load-back, book-back, ring-back, head-is}
+use Rattle.image.proofs.Lengths.{head-length, length-image}
+use Rattle.image.proofs.Back.{load-back, book-back, ring-back, head-is}
 use Rattle.image.proofs.Sameness as sameness
 use Rattle.image.proofs.Numbers as numbers
 use Rattle.image.proofs.Numbers.{OneOf}
@@ -49,7 +50,7 @@ module _ (b : Book) (ring : List ℤ) (buffer : List ℕ) (t : Typed b) (e : isA
 
   -- the image's bytes are the first of the buffer, as many as the answer says
   pub image-bytes : take (lengthOf b) (stored b ring buffer .buffer) ≡ imageOf b ring
-  image-bytes = rw (ok-stored b ring buffer ok) (take-at (imageOf b ring) (drop (lengthOf b) buffer) (lengthOf b) (length-image b ring (length buffer) t ok))
+  image-bytes = rw (ok-stored b ring buffer ok) (take-at (imageOf b ring) (drop (lengthOf b) buffer) (lengthOf b) (length-image b ring (ok .book) (head-length b t)))
 
   pub image-length : stored b ring buffer .length ≡ lengthOf b
   image-length = rw (ok-stored b ring buffer ok)

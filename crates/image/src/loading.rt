@@ -1,8 +1,250 @@
 // Loading a book from an image, and the image check.
+use crate::counted::how_many;
+use crate::layout::get_u8;
+use crate::layout::get_u16;
+use crate::layout::get_u32;
+use crate::layout::head_from;
+use crate::layout::image_length;
+use book::opening::ring_size;
 use book::record::Answer;
 use book::record::Book;
+use book::record::Refusal;
+use book::record::closed;
+use book::validity::valid;
+use codec::get_word;
+use pricing::holding::in_range;
+ghost use mathlib.Core.Path.{_≡_};
+ghost use mathlib.Core.Bool.{true, not};
+ghost use Prim.Native.Nat.{_+_, _*_, _≤_};
+ghost use lib.Dec.{ltb};
+ghost use lib.IntN.{pos};
+ghost use lib.ListN.{length, replicate};
+ghost use lib.Seq.{sets};
+ghost use Rattle.laws.specs.Base.{pick};
+ghost use Rattle.laws.specs.Lists.{tabulate, firstOf, total};
+ghost use Rattle.pricing.specs.Holding.{isEnergy, inRange};
+ghost use Rattle.book.specs.Record.{verdictOf, verdict};
+ghost use Rattle.book.specs.Validity.{valid};
+ghost use Rattle.image.specs.Counted.{marketCount, howMany};
+ghost use Rattle.image.specs.Loading.{priceAt, headVerdict, badFrom, ringOf, loadVerdict, checked, loadedWindow, windowsFrom, sumsFrom, outcome, loaded};
 
 pub struct Loaded {
     pub book: Book,
     pub answer: Answer,
+}
+
+// Price `i` of a window's `count`, or zero.
+fn price_or_zero(bytes: &[u8], from: usize, count: usize, i: usize) -> i32
+    requires { ⌜ from + 4 * count ≤ length (now bytes) ⌝ }
+    ensures { λ r. ⌜ r ≡ pick (ltb i count) (priceAt (now (bytes .entry)) from i) (pos 0) ⌝ }
+{
+    if i < count {
+        get_word(bytes, from + 4 * i)
+    } else {
+        0
+    }
+}
+
+// A window of the ring anew: `count` prices from `from`, then zeros.
+fn load_window(
+    bytes: &[u8],
+    from: usize,
+    count: usize,
+    ring: &mut [i32],
+    base: usize,
+    window: usize,
+)
+    requires { ⌜ (base + window ≤ length (now ring)) × (from + 4 * count ≤ length (now bytes)) ⌝ }
+    ensures { λ _. ⌜ now (ring .exit) ≡ sets (now (ring .entry)) base (loadedWindow (now (bytes .entry)) window count from) ⌝ }
+{
+    let mut i: usize = 0;
+    while i < window {
+        let price = price_or_zero(bytes, from, count, i);
+        ring[base + i] = price;
+        i += 1;
+    }
+}
+
+fn sum_prices(bytes: &[u8], from: usize, count: usize) -> i64
+    requires { ⌜ (count ≤ 2016) × (from + 4 * count ≤ length (now bytes)) ⌝ }
+    ensures { λ r. ⌜ r ≡ total (tabulate count (priceAt (now (bytes .entry)) from)) ⌝ }
+{
+    let mut sum: i64 = 0;
+    let mut i: usize = 0;
+    while i < count {
+        let price = get_word(bytes, from + 4 * i);
+        sum = sum + price as i64;
+        i += 1;
+    }
+    sum
+}
+
+// The ring of an image whose prices start at `from`, and the sums of its windows.
+fn load_prices(bytes: &[u8], book: Book, ring: &mut [i32], from: usize) -> [i64; 88]
+    requires { ⌜ (valid book ≡ true) × (length (now ring) ≡ ringOf book) × (from + 4 * howMany book ≤ length (now bytes)) ⌝ }
+    ensures { λ r. ⌜ r ≡ sumsFrom book (now (bytes .entry)) (marketCount book) 0 from (replicate 88 (pos 0)) ⌝ }
+    ensures { λ _. ⌜ now (ring .exit) ≡ windowsFrom book (now (bytes .entry)) (marketCount book) 0 from ⌝ }
+{
+    let markets = book.services as usize + 1;
+    let n = book.regions as usize * markets;
+    let wide = book.window as usize;
+    let mut sums = [0i64; 88];
+    let mut at = from;
+    let mut q: usize = 0;
+    while q < n {
+        let r = q / markets;
+        let many = book.counts[r] as usize;
+        load_window(bytes, at, many, ring, q * wide, wide);
+        let place = 11 * r + q % markets;
+        sums[place] = sum_prices(bytes, at, many);
+        at += 4 * many;
+        q += 1;
+    }
+    sums
+}
+
+// The first of `count` prices from `from` that is out of range, or `count`.
+fn bad_in(bytes: &[u8], from: usize, count: usize, market: usize) -> usize
+    requires { ⌜ from + 4 * count ≤ length (now bytes) ⌝ }
+    ensures { λ x. ⌜ x ≡ firstOf count (λ i. not (inRange (isEnergy market) (priceAt (now (bytes .entry)) from i))) ⌝ }
+{
+    let mut i: usize = 0;
+    while i < count {
+        let price = get_word(bytes, from + 4 * i);
+        if !in_range(market, price) {
+            return i;
+        }
+        i += 1;
+    }
+    i
+}
+
+// The first price out of range of an image whose prices start at `from`, or how many there are.
+fn first_bad(bytes: &[u8], book: Book, from: usize) -> usize
+    requires { ⌜ (valid book ≡ true) × (from + 4 * howMany book ≤ length (now bytes)) ⌝ }
+    ensures { λ x. ⌜ x ≡ badFrom book (now (bytes .entry)) from (marketCount book) 0 0 ⌝ }
+{
+    let markets = book.services as usize + 1;
+    let n = book.regions as usize * markets;
+    let mut k: usize = 0;
+    let mut q: usize = 0;
+    while q < n {
+        let many = book.counts[q / markets] as usize;
+        let i = bad_in(bytes, from + 4 * k, many, q % markets);
+        if i < many {
+            return k + i;
+        }
+        k += many;
+        q += 1;
+    }
+    k
+}
+
+// 24 to 27 in order.
+fn head_verdict(bytes: &[u8]) -> Answer
+    ensures { λ r. ⌜ verdict r ≡ headVerdict (now (bytes .entry)) ⌝ }
+{
+    let n = bytes.len();
+    if n < 148 {
+        return Answer::Refused(Refusal::ImageLength);
+    }
+    if get_u32(bytes, 0) as usize != n {
+        return Answer::Refused(Refusal::ImageLength);
+    }
+    if get_u16(bytes, 4) != 1 {
+        return Answer::Refused(Refusal::ImageKind);
+    }
+    let book = head_from(bytes);
+    let zeros = (get_u8(bytes, 11) == 0) & (get_u16(bytes, 26) == 0);
+    if !(zeros & valid(book)) {
+        return Answer::Refused(Refusal::ImageField);
+    }
+    if n != image_length(book) {
+        return Answer::Refused(Refusal::ImageTotal);
+    }
+    Answer::Accepted
+}
+
+// 24 to 27, 11 and 16 in order, with a ring of so many places.
+fn load_verdict(bytes: &[u8], ring: usize) -> Answer
+    ensures { λ r. ⌜ verdict r ≡ loadVerdict (now (bytes .entry)) ring ⌝ }
+{
+    let answer = head_verdict(bytes);
+    match answer {
+        Answer::Refused(_) => answer,
+        Answer::Accepted => {
+            let book = head_from(bytes);
+            if ring != ring_size(book.regions, book.services, book.window) {
+                return Answer::Refused(Refusal::Length);
+            }
+            let bad = first_bad(bytes, book, 148);
+            if bad < how_many(book) {
+                return Answer::Refused(Refusal::Price(bad));
+            }
+            Answer::Accepted
+        }
+    }
+}
+
+// The paper's number of a refusal.
+fn number(refusal: Refusal) -> u32
+    ensures { λ r. ⌜ r ≡ verdictOf refusal .number ⌝ }
+{
+    match refusal {
+        Refusal::Invalid => 10,
+        Refusal::Length => 11,
+        Refusal::Full => 12,
+        Refusal::Number => 13,
+        Refusal::Kind => 14,
+        Refusal::Mark(_) => 15,
+        Refusal::Price(_) => 16,
+        Refusal::Factor(_) => 17,
+        Refusal::Threshold => 18,
+        Refusal::Limits => 19,
+        Refusal::Setting => 20,
+        Refusal::Market => 21,
+        Refusal::Sums => 22,
+        Refusal::Buffer => 23,
+        Refusal::ImageLength => 24,
+        Refusal::ImageKind => 25,
+        Refusal::ImageField => 26,
+        Refusal::ImageTotal => 27,
+    }
+}
+
+// 0, or the number of the load's refusal, the ring's length left out.
+pub fn check(bytes: &[u8]) -> u32
+    ensures { λ r. ⌜ r ≡ checked (now (bytes .entry)) ⌝ }
+{
+    let answer = head_verdict(bytes);
+    match answer {
+        Answer::Refused(refusal) => number(refusal),
+        Answer::Accepted => {
+            let book = head_from(bytes);
+            let bad = first_bad(bytes, book, 148);
+            if bad < how_many(book) {
+                return 16;
+            }
+            0
+        }
+    }
+}
+
+// The book of an image, with its prices in `ring`.
+pub fn load(bytes: &[u8], ring: &mut [i32]) -> Loaded
+    ensures { λ r. ⌜ outcome r (now (ring .exit)) ≡ loaded (now (bytes .entry)) (now (ring .entry)) ⌝ }
+{
+    let answer = load_verdict(bytes, ring.len());
+    match answer {
+        Answer::Refused(_) => {
+            let book = closed();
+            Loaded { book, answer }
+        }
+        Answer::Accepted => {
+            let mut book = head_from(bytes);
+            let sums = load_prices(bytes, book, ring, 148);
+            book.sums = sums;
+            Loaded { book, answer }
+        }
+    }
 }
