@@ -1,4 +1,4 @@
--- What an acceptance says of the book and the entry: the facts that publishing and the windows ask. Assumes nothing.
+-- What an acceptance says of the book and the entry, and the facts that publishing asks. Assumes nothing.
 use mathlib.Core.Path.{_≡_, refl, sym, _∙_}
 use mathlib.Core.Bool.{Bool, true, false, not, _&&_}
 use mathlib.Core.List.{List}
@@ -22,7 +22,7 @@ use Rattle.book.proofs.Validities.{Valid, valid-is, seven}
 use Rattle.publishing.specs.Entry.{Entry, Terms-ok, Offer-ok, Links-ok}
 use Rattle.entries.specs.Checking.{lengthsOk, firstMark, badPrice, firstPrice, badFactor, firstFactor, entryVerdict}
 use Rattle.entries.specs.Entering.{shapeOf, termsOf, enterVerdict}
-use Rattle.entries.specs.Working.{slicesVerdict, Takes, Accepts}
+use Rattle.entries.specs.Working.{slicesVerdict, Accepts}
 
 -- a refusal is no acceptance: where the choice of one or the other accepts, the test failed and the other was chosen
 passes : (t : Bool) (n place : ℕ) (v : Verdict) → eqb n 0 ≡ false → isAccepted (pick t (refusedAt n place) v) ≡ true → (t ≡ false) × (isAccepted v ≡ true) × (pick t (refusedAt n place) v ≡ v)
@@ -106,7 +106,7 @@ module _ (b : Book) (ring n : ℕ) (e : Entry) (table : ℕ) where
   pub accepted-is : isAccepted (enterVerdict b ring n e table) ≡ true → enterVerdict b ring n e table ≡ accepted
   accepted-is h = whole h .1
 
--- ---- what publishing and step 5 ask
+-- ---- what publishing asks
 pub terms-ok : (b : Book) → Valid b → Terms-ok (termsOf b)
 terms-ok b v = record {
   regions = (v .some-regions, v .regions);
@@ -127,6 +127,3 @@ module _ (b : Book) (ring n : ℕ) (e : Entry) (table : ℕ) (a : Accepts b ring
     factors-size = a .factors-size;
     linked = λ r h k. a .factors r h (λ z. k (getD-any (b .parents) r 0 255 (omega (arith, valid-is b (a .valid) .regions)) ∙ z));
   }
-
-  pub takes : Takes b ring (length (e .offer .prices)) (length (e .offer .marked))
-  takes = record { valid = a .valid; ring-size = a .ring-size; prices-size = a .prices-size; marked-size = a .marked-size }

@@ -116,11 +116,12 @@ module _ (b : Book) (v : Valid b) (ring : List ℤ) (o : Offer) (r : ℕ) (h : r
   at-parts : (m : ℕ) → m < M → (at m / W ≡ r * M + m) × (at m % W ≡ next) × (at m / W / M ≡ r)
   at-parts m l = let e = flat-div (r * M + m) next W (v .next r h) in (e, flat-mod (r * M + m) next W (v .next r h), rw e (flat-div r m M l))
 
+  -- its markets and those below are not more than all
+  row-below : r * M + M ≤ b .regions * M
+  row-below = rw (← next-row r M) (mul-le-mul-right M (rw add-one h))
+
   at-below : (m : ℕ) → m < M → length ring ≡ ringSize (b .regions) (b .services) (b .window) → at m < length ring
-  at-below m l e = omega (arith, place-within M W next r m (v .next r h) l, whole-ring)
-    where
-      whole-ring : (r * M + M) * W ≤ ringSize (b .regions) (b .services) (b .window)
-      whole-ring = mul-le-mul-right W (rw (← next-row r M) (mul-le-mul-right M (rw add-one h)))
+  at-below m l e = omega (arith, place-within M W next r m (v .next r h) l, mul-le-mul-right W row-below)
 
   -- a region's places are as they were until its turn
   sum-is : (m : ℕ) → m < M → getD (sumsTo b ring o r) (placeOf r m) (pos 0) ≡ getD (b .sums) (placeOf r m) (pos 0)
@@ -128,14 +129,12 @@ module _ (b : Book) (v : Valid b) (ring : List ℤ) (o : Offer) (r : ℕ) (h : r
 
   pub region-ok : (prices : ℕ) → prices ≡ b .regions * M → length ring ≡ ringSize (b .regions) (b .services) (b .window) → Region-ok M W next r prices (length ring) (sumsTo b ring o r)
   region-ok prices p e =
-      let q : (r + 1) * M ≤ b .regions * M = mul-le-mul-right M (rw add-one h) in
-      let s : r * M + M ≤ b .regions * M = rw next-row at q in
       record {
         region = omega (arith, v .regions);
         markets = omega (arith, v .services);
         next = v .next r h;
-        prices = omega arith;
-        ring = omega (arith, mul-le-mul-right W s);
+        prices = omega (arith, row-below);
+        ring = omega (arith, mul-le-mul-right W row-below);
         sums = λ m l. rw (sum-is m l) (sum-at b v r m h (omega arith));
       }
 

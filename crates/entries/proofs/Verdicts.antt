@@ -21,7 +21,7 @@ use Rattle.publishing.specs.Published.{tableOf, countOf}
 use Rattle.entries.specs.declared.Publication.the-variants.{Count, Refused as Not-published}
 use Rattle.entries.specs.Checking.{lengthsOk, firstMark, firstPrice, firstFactor, entryVerdict}
 use Rattle.entries.specs.Windows.{ringAfter}
-use Rattle.entries.specs.Entering.{Outcome, shapeOf, termsOf, bookAfter, enterVerdict, outcome, entered}
+use Rattle.entries.specs.Entering.{shapeOf, termsOf, bookAfter, enterVerdict, outcome, entered}
 use Rattle.entries.specs.Working.{slicesVerdict, Accepts, acceptance}
 use Rattle.book.proofs.Validities.{valid-is}
 use Rattle.entries.proofs.Accepted.{accepted-entry, terms-ok, offer-ok, links-ok}
@@ -91,9 +91,9 @@ module _ (b : Book) (ring : List ℤ) (n : ℕ) (e : Entry) (table : List ℤ) (
   pub entry-accepted : a ≡ Accepted → Accepts b (length ring) (b .entries) e (length table)
   entry-accepted q = let f = accepted-entry b (length ring) n e (length table) (is-accepted q) in rw (f .number) at f
 
-  pub entered-accepted : a ≡ Accepted → (o : Outcome) → o ≡ acceptance b ring e → o ≡ entered b ring n e table
+  pub entered-accepted : a ≡ Accepted → acceptance b ring e ≡ entered b ring n e table
   unfolding entered
-  entered-accepted q o p = rw (is-accepted q) p
+  entered-accepted q = rw (is-accepted q)
 
 -- ---- what publishing asks and answers, with the terms that the code made
 module _ (b : Book) (ring : List ℤ) (e : Entry) (t : Terms) (q : t ≡ termsOf b) where

@@ -1,5 +1,5 @@
--- The way by which the code takes an entry: the tests and steps over numbers and lent slices, with no book. The promise of
--- `enter` does not speak of these; its proof shows that they come to the same. Assumes nothing.
+-- The way by which the code takes an entry: its steps over numbers and lent slices, and what one part asks of another. The
+-- promise of `enter` does not speak of these; its proof shows that they come to the same. Assumes nothing.
 use mathlib.Core.Path.{_≡_}
 use mathlib.Core.Bool.{Bool, true, _&&_}
 use mathlib.Core.List.{List, []}

@@ -5,7 +5,7 @@ use book::record::Refusal;
 use book::validity::valid;
 ghost use mathlib.Core.Path.{_≡_};
 ghost use mathlib.Core.Bool.{Bool};
-ghost use Prim.Native.Nat.{ℕ, _+_, _*_, _≤_, _<_};
+ghost use Prim.Native.Nat.{_*_, _≤_};
 ghost use lib.ListN.{length};
 ghost use Rattle.book.specs.Record.{verdict};
 ghost use Rattle.publishing.specs.Entry.{entryOf};

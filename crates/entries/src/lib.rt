@@ -16,7 +16,7 @@ use book::record::Refusal;
 use publishing::Terms;
 use publishing::publish;
 ghost use mathlib.Core.Path.{_≡_};
-ghost use Prim.Native.Nat.{ℕ, _<_};
+ghost use Prim.Native.Nat.{_<_};
 ghost use lib.ListN.{length};
 ghost use Rattle.publishing.specs.Entry.{entryOf};
 ghost use Rattle.entries.specs.Windows.{ringAfter};
@@ -137,21 +137,21 @@ pub fn enter(
         schedule,
         table.len(),
     );
-    match answer {
-        Answer::Refused(refusal) => Entered {
+    if let Answer::Refused(refusal) = answer {
+        return Entered {
             book,
             publication: Publication::Refused(refusal),
-        },
-        Answer::Accepted => accept(
-            book,
-            ring,
-            kind,
-            prices,
-            marked,
-            flows,
-            factors,
-            schedule,
-            table,
-        ),
+        };
     }
+    accept(
+        book,
+        ring,
+        kind,
+        prices,
+        marked,
+        flows,
+        factors,
+        schedule,
+        table,
+    )
 }

@@ -1,9 +1,9 @@
 // Step 6: the period marks, and the position of the next entry.
 ghost use mathlib.Core.Path.{_≡_};
 ghost use mathlib.Core.Bool.{Bool};
-ghost use Prim.Native.Nat.{ℕ, _+_, _*_, _<_};
+ghost use Prim.Native.Nat.{_+_, _<_};
 ghost use Rattle.laws.specs.Base.{pick};
-ghost use Rattle.entries.specs.Periods.{lastOfDay, positionAfter, markAfter};
+ghost use Rattle.entries.specs.Periods.{lastOfDay, markAfter};
 ghost use Rattle.entries.specs.Working.{marksBy};
 
 // Whether a position is a day's last.

@@ -3,7 +3,7 @@ use book::record::Book;
 ghost use mathlib.Core.Path.{_≡_};
 ghost use mathlib.Core.Bool.{Bool};
 ghost use Prim.Native.Nat.{ℕ, _≤_, _<_};
-ghost use lib.IntN.{ℤ, natAbs, _+ℤ_, _-ℤ_};
+ghost use lib.IntN.{natAbs, _+ℤ_, _-ℤ_};
 ghost use lib.ListN.{length, getD};
 ghost use Rattle.laws.specs.Base.{pick};
 ghost use Rattle.entries.specs.Windows.{sumsAfter, ringAfter, grown, following};

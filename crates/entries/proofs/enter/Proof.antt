@@ -1,4 +1,5 @@
 -- `entries::enter` meets its contract: the answer of its tests decides. Assumes nothing.
+use mathlib.Core.Path.{_∙_}
 use borrow.Author.Needs.{needs}
 use Rattle.publishing.specs.Entry.{Entry, entryOf}
 use Rattle.entries.proofs.Verdicts.{entered-refused, entry-accepted, entered-accepted}
@@ -15,20 +16,22 @@ enter-verdict-requires c κs = search needs
 enum-known-answer : tie.Need-enum-known-answer
 enum-known-answer c = search needs
 
+returns : tie.Need-returns
+returns c =
+    let v = c .before .before .before in
+    let s = c .before .before .before .before .before .before in
+    let a = s .args in
+    entered-refused (a .book) (a .ring .now) (a .number) (entry s) (a .table .now) _ (v .enter-verdict .ensures) _ (c .before .answer .given .1)
+
 enum-told : tie.Need-enum-told
 enum-told c = search needs
 
 accept-requires : tie.Need-accept-requires
 accept-requires c κs =
     let v = c .before .before .before .before in
-    let a = c .before .before .before .before .before .before .before .args in
-    entry-accepted (a .book) (a .ring .now) (a .number) (entry (c .before .before .before .before .before .before .before)) (a .table .now) _ (v .enter-verdict .ensures) (c .before .before .enum-told .given .1)
-
-returns : tie.Need-returns
-returns c =
-    let v = c .before .before .before in
-    let a = c .before .before .before .before .before .before .args in
-    entered-refused (a .book) (a .ring .now) (a .number) (entry (c .before .before .before .before .before .before)) (a .table .now) _ (v .enter-verdict .ensures) _ (c .before .answer .given .1)
+    let s = c .before .before .before .before .before .before .before in
+    let a = s .args in
+    entry-accepted (a .book) (a .ring .now) (a .number) (entry s) (a .table .now) _ (v .enter-verdict .ensures) (c .before .before .enum-told .given .1)
 
 same-length : tie.Need-same-length
 same-length c = search needs
@@ -39,8 +42,9 @@ same-length-2 c = search needs
 returns-2 : tie.Need-returns-2
 returns-2 c =
     let v = c .before .before .before .before .before .before .before in
-    let a = c .before .before .before .before .before .before .before .before .before .before .args in
-    entered-accepted (a .book) (a .ring .now) (a .number) (entry (c .before .before .before .before .before .before .before .before .before .before)) (a .table .now) _ (v .enter-verdict .ensures) (c .before .before .before .before .before .enum-told .given .1) _ (c .before .before .accept .ensures)
+    let s = c .before .before .before .before .before .before .before .before .before .before in
+    let a = s .args in
+    c .before .before .accept .ensures ∙ entered-accepted (a .book) (a .ring .now) (a .number) (entry s) (a .table .now) _ (v .enter-verdict .ensures) (c .before .before .before .before .before .enum-told .given .1)
 
 pub enter-spec : {M : Type 1} → statement M
 enter-spec =
@@ -48,9 +52,9 @@ enter-spec =
     (tie.spec
     enter-verdict-requires
     enum-known-answer
+    returns
     enum-told
     accept-requires
-    returns
     same-length
     same-length-2
     returns-2)

@@ -22,7 +22,7 @@ ok : (c : tie.Else1) → valid (c .before .before .before .before .args .book) �
 ok c = sym (c .before .valid .ensures) ∙ not-false _ (c .if1 .left)
 
 fit : (c : tie.Else2) → let s = c .before .before .before .before .before .before in lengthsOk (shapeOf (s .args .book)) (s .args .ring) (entry s) (s .args .table) ≡ true
-fit c = sym (c .before .lengths-ok .ensures) ∙ not-false _ (c .if2 .left)
+fit c = sym (c .before .lengths-ok .ensures) ∙ not-false (c .before .lengths-ok .result) (c .if2 .left)
 
 valid-requires : tie.Need-valid-requires
 valid-requires c κs = search needs
@@ -38,7 +38,7 @@ returns-2 : tie.Need-returns-2
 returns-2 c =
     let s = c .before .before .before .before .before .before in
     let a = s .args in
-    enter-11 (a .book) (a .ring) (a .number) (entry s) (a .table) (ok (c .before .before)) (sym (c .before .lengths-ok .ensures) ∙ not-true _ (c .if2 .taken))
+    enter-11 (a .book) (a .ring) (a .number) (entry s) (a .table) (ok (c .before .before)) (sym (c .before .lengths-ok .ensures) ∙ not-true (c .before .lengths-ok .result) (c .if2 .taken))
 
 returns-3 : tie.Need-returns-3
 returns-3 c =

@@ -1,56 +1,14 @@
 -- `pricing::indexing::indexed` meets its contract. The ranges that 30 asks leave room for every product. Assumes nothing.
 use borrow.Author.Needs.{needs}
-use borrow.Author.Tests.{leb-true, not-true, not-false}
+use borrow.Author.Tests.{not-true, not-false}
 use mathlib.Core.Path.{_≡_, sym, _∙_}
-use mathlib.Core.Bool.{true, _&&_}
-use Prim.Native.Nat.{ℕ, _*_, _≤_}
-use native.Mathlib.Nat.{mul-le-mul}
+use mathlib.Core.Bool.{true}
+use Prim.Native.Nat.{_*_}
 use native.Mathlib.Omega.{arith}
-use lib.Dec.{leb}
-use Rattle.laws.proofs.Tests.{and-left, and-right}
-use Rattle.pricing.specs.Indexing.{between, quartersOk, sum, indexOk, indexed}
-use Rattle.pricing.specs.declared.indexing.Quarters.{Quarters}
-use Rattle.pricing.proofs.Roundings.{nearest-size}
+use Rattle.pricing.specs.Indexing.{sum, indexOk, indexed}
+use Rattle.pricing.proofs.Indexes.{Ranges, ranges, hundreds-most}
 use Rattle.pricing.proofs.indexing.indexed.Statement.{statement}
 use Rattle.pricing.proofs.indexing.indexed.Tie as tie
-
-in-between : (low high x : ℕ) → between low high x ≡ true → (low ≤ x) × (x ≤ high)
-in-between low high x e =
-    (leb-true low x (and-left (leb low x) (leb x high) e), leb-true x high (and-right (leb low x) (leb x high) e))
-
--- a year's quarters in range
-in-year : (y : Quarters) → quartersOk y ≡ true → (4 ≤ sum y) × (sum y ≤ 400000)
-in-year y e =
-    let t1 = between 1 100000 (y .q1) in
-    let t2 = between 1 100000 (y .q2) in
-    let t3 = between 1 100000 (y .q3) in
-    let t4 = between 1 100000 (y .q4) in
-    let e3 = and-left (t1 && t2 && t3) t4 e in
-    let e2 = and-left (t1 && t2) t3 e3 in
-    omega (
-      arith,
-      in-between 1 100000 (y .q1) (and-left t1 t2 e2),
-      in-between 1 100000 (y .q2) (and-right t1 t2 e2),
-      in-between 1 100000 (y .q3) (and-right (t1 && t2) t3 e3),
-      in-between 1 100000 (y .q4) (and-right (t1 && t2 && t3) t4 e),
-    )
-
--- what is left of them for the products
-record Ranges (amount : ℕ) (c b : Quarters) : Type 0 where
-  product : amount * sum c ≤ 100000000 * 400000
-  below : (4 ≤ sum b) × (sum b ≤ 400000)
-
-ranges : (amount : ℕ) (c b : Quarters) (last : ℕ) → indexOk amount c b last ≡ true → Ranges amount c b
-ranges amount c b last e =
-    let t = between 1 100000000 amount in
-    let e3 = and-left (t && quartersOk c && quartersOk b) (leb last 10000000000000) e in
-    let e2 = and-left (t && quartersOk c) (quartersOk b) e3 in
-    let a = in-between 1 100000000 amount (and-left t (quartersOk c) e2) in
-    let y = in-year c (and-right t (quartersOk c) e2) in
-    record {
-      product = mul-le-mul (a .1) (y .1);
-      below = in-year b (and-right (t && quartersOk c) (quartersOk b) e3);
-    }
 
 -- the test as it was left behind
 passed : (c : tie.Else1) → indexOk (c .before .before .args .amount) (c .before .before .args .c) (c .before .before .args .b) (c .before .before .args .last) ≡ true
@@ -85,14 +43,9 @@ nearest-requires c κs =
 
 mul-larger : tie.Need-mul-larger
 mul-larger c =
-    let r = in-ranges (c .before .before .before) in
     let a = c .before .before .before .before .before .args in
-    let n = c .before .before .sum .ensures in
-    let d = c .before .sum2 .ensures in
-    rw (c .nearest .ensures, n, d)
-    (record {
-      fits = omega (arith, nearest-size (a .amount * sum (a .c)) (100 * sum (a .b)) 40000000000000 (omega (arith, r .below)) (omega (arith, r .product, r .below)));
-    })
+    rw (c .nearest .ensures, c .before .before .sum .ensures, c .before .sum2 .ensures)
+    (record { fits = omega (arith, hundreds-most (a .amount) (a .c) (a .b) (in-ranges (c .before .before .before))) })
 
 larger-requires : tie.Need-larger-requires
 larger-requires c κs = search needs

@@ -1,0 +1,3 @@
+pub mod Puts
+pub mod Sheets
+pub mod Loads

@@ -1,0 +1,150 @@
+/* The image check, the index and the day sheet in plain C, from the specification alone. */
+#include "independent.h"
+
+#include <stdio.h>
+
+static uint64_t number(const uint8_t *image, size_t at, int bytes)
+{
+    uint64_t n = 0;
+    for (int i = bytes; i > 0; i--)
+        n = n << 8 | image[at + i - 1];
+    return n;
+}
+
+static int64_t word(const uint8_t *image, size_t at)
+{
+    return (int32_t)(uint32_t)number(image, at, 4);
+}
+
+static int parents_bad(const uint8_t *image, unsigned regions)
+{
+    for (unsigned r = 0; r < 8; r++) {
+        unsigned parent = image[12 + r];
+        if (parent == 255)
+            continue;
+        if (r >= regions || parent >= r)
+            return 1;
+    }
+    return 0;
+}
+
+static int counts_bad(const uint8_t *image, unsigned regions, uint64_t window, uint64_t entries)
+{
+    for (unsigned r = 0; r < 8; r++) {
+        uint64_t count = number(image, 44 + 2 * r, 2);
+        if (r < regions ? count > window || count > entries : count != 0)
+            return 1;
+    }
+    return 0;
+}
+
+static int periods_bad(const uint8_t *image, unsigned regions, unsigned services)
+{
+    for (unsigned r = 0; r < 8; r++)
+        for (unsigned m = 0; m < 11; m++) {
+            unsigned period = image[60 + 11 * r + m];
+            if (period > (r < regions && m <= services ? 1u : 0u))
+                return 1;
+        }
+    return 0;
+}
+
+static int field_bad(const uint8_t *image)
+{
+    unsigned regions = image[6], services = image[7], halves = image[10];
+    uint64_t window = number(image, 8, 2), entries = number(image, 20, 4), threshold = number(image, 28, 8);
+    int64_t cap = word(image, 36), floor = word(image, 40);
+    if (regions < 1 || regions > 8 || services > 10)
+        return 1;
+    if (window < 1 || window > 2016 || halves < 1 || halves > 48)
+        return 1;
+    if (image[11] != 0 || image[26] != 0 || image[27] != 0)
+        return 1;
+    if (entries > 10000000 || number(image, 24, 2) >= 6 * halves)
+        return 1;
+    if (threshold < 1 || threshold > 100000000000)
+        return 1;
+    if (cap < 1 || cap > 10000000 || floor < -10000000 || floor > -1)
+        return 1;
+    return parents_bad(image, regions) || counts_bad(image, regions, window, entries) || periods_bad(image, regions, services);
+}
+
+static uint64_t count_of(const uint8_t *image, unsigned region)
+{
+    return number(image, 44 + 2 * region, 2);
+}
+
+static uint64_t counted(const uint8_t *image)
+{
+    uint64_t n = 0;
+    for (unsigned r = 0; r < 8; r++)
+        n += count_of(image, r);
+    return n * (image[7] + 1);
+}
+
+static int price_bad(unsigned market, int64_t price)
+{
+    return price > 10000000 || price < (market == 0 ? -10000000 : 0);
+}
+
+uint32_t independent_check(const uint8_t *image, size_t length)
+{
+    if (length < 148 || number(image, 0, 4) != length)
+        return 24;
+    if (number(image, 4, 2) != 1)
+        return 25;
+    if (field_bad(image))
+        return 26;
+    if (length != 148 + 4 * counted(image))
+        return 27;
+    size_t at = 148;
+    for (unsigned r = 0; r < image[6]; r++)
+        for (unsigned m = 0; m <= image[7]; m++)
+            for (uint64_t i = 0; i < count_of(image, r); i++, at += 4)
+                if (price_bad(m, word(image, at)))
+                    return 16;
+    return 0;
+}
+
+int64_t independent_index(uint64_t amount, const uint32_t c[4], const uint32_t b[4], uint64_t last)
+{
+    uint64_t over = 0, under = 0;
+    for (int i = 0; i < 4; i++) {
+        if (c[i] < 1 || c[i] > 100000 || b[i] < 1 || b[i] > 100000)
+            return -30;
+        over += c[i];
+        under += b[i];
+    }
+    if (amount < 1 || amount > 100000000 || last > 10000000000000)
+        return -30;
+    /* dollars = amount * over / under as a fraction, at most 4 * 10^13 / under; the nearest hundred, half up */
+    uint64_t dividend = amount * over, hundred = 100 * under;
+    uint64_t whole = dividend / hundred, rest = dividend % hundred;
+    if (2 * rest >= hundred)
+        whole++;
+    uint64_t dollars = 100 * whole;
+    return (int64_t)(dollars < last ? last : dollars);
+}
+
+size_t independent_sheet(const uint8_t *image, size_t length, char *out)
+{
+    if (length > 65536)
+        return (size_t)sprintf(out, "refused 29\n");
+    uint32_t refusal = independent_check(image, length);
+    if (refusal != 0)
+        return (size_t)sprintf(out, "refused %u\n", refusal);
+    unsigned regions = image[6], markets = image[7] + 1u;
+    if (regions * markets * number(image, 8, 2) > 16384)
+        return (size_t)sprintf(out, "refused 29\n");
+    size_t n = (size_t)sprintf(out, "region,market,counted,sum,administered\n"), at = 148;
+    for (unsigned r = 0; r < regions; r++)
+        for (unsigned m = 0; m < markets; m++) {
+            int64_t sum = 0;
+            for (uint64_t i = 0; i < count_of(image, r); i++, at += 4)
+                sum += word(image, at);
+            uint64_t size = (uint64_t)(sum < 0 ? -sum : sum);
+            n += (size_t)sprintf(out + n, "%u,%u,%u,%s%llu.%02llu,%u\n", r, m, (unsigned)count_of(image, r), sum < 0 ? "-" : "",
+                                 (unsigned long long)(size / 100), (unsigned long long)(size % 100), image[60 + 11 * r + m]);
+        }
+    return n;
+}

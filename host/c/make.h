@@ -1,0 +1,41 @@
+/* Images for the tests and the samples: a plain description of a book, laid out as bytes; and numbers from a fixed seed. */
+#ifndef MAKE_H
+#define MAKE_H
+
+#include <stddef.h>
+#include <stdint.h>
+
+struct plan {
+    unsigned regions, services, window, halves;
+    uint8_t parents[8];
+    uint32_t entries;
+    unsigned position;
+    int64_t threshold;
+    int32_t cap, floor;
+    unsigned counts[8];
+    uint8_t periods[88]; /* at 11 x region + market */
+};
+
+/* The longest image: 8 regions of 11 markets, each of 2,016 prices. */
+#define LONGEST (148 + 4 * 88 * 2016)
+
+/* A small book with nothing counted: 1 region, no service, window 1, threshold 95,000, limits of 60,000. */
+struct plan plain(void);
+
+/* The length of the plan's image, and the image with price `price` at every place. */
+size_t size_of(const struct plan *plan);
+size_t lay_out(const struct plan *plan, int32_t price, uint8_t *image);
+
+void put_number(uint8_t *image, size_t at, int bytes, uint64_t n);
+void put_price(uint8_t *image, size_t place, int32_t price);
+
+/* The next of a fixed run of numbers, and one below `n`. */
+extern uint64_t seed;
+uint64_t next(void);
+uint64_t below(uint64_t n);
+
+/* A plan whose image passes the check, with windows of at most `widest`; and its image with random prices in range. */
+struct plan any_plan(unsigned widest);
+size_t any_image(unsigned widest, uint8_t *image);
+
+#endif
