@@ -6,25 +6,25 @@ use Prim.Native.Nat.{ℕ, _+_, _*_, _/_, _%_, _≤_, _<_}
 use native.Mathlib.Nat.{le-of-eq}
 use native.Mathlib.Omega.{arith}
 use lib.IntN.{ℤ, pos}
-use lib.ListN.{length, getD, take, replicate, length-append, getD-replicate}
+use lib.ListN.{length, getD, take, replicate, getD-replicate}
 use lib.Seq.{ext-getD}
 use Rattle.laws.specs.Lists.{total}
 use Rattle.laws.specs.Bytes.{numberAt, encode, decode, sizeOf}
 use Rattle.laws.proofs.Tests.{lt-or-ge}
 use Rattle.laws.proofs.Lists.{length-run, tabulate-same}
-use Rattle.laws.proofs.Fields.{length-encode, decode-encode}
+use Rattle.laws.proofs.Fields.{decode-encode}
 use Rattle.pricing.specs.Holding.{isEnergy}
 use Rattle.book.specs.declared.record.Book.{Book}
 use Rattle.book.specs.Record.{marketsOf, ringSize}
 use Rattle.book.proofs.Validities.{Valid}
 use Rattle.image.specs.Counted.{marketCount, countAt, inOrder, counted, howMany}
-use Rattle.image.specs.Layout.{widths, headSize, lengthOf, firsts, seconds, values, words, imageOf, bookOf, headFrom}
+use Rattle.image.specs.Layout.{widths, lengthOf, firsts, seconds, values, words, imageOf, bookOf, headFrom}
 use Rattle.image.specs.Loading.{priceAt, firstBad, bookFrom, ringFrom}
-use Rattle.image.proofs.Lists.{sum-below, tabulate-list, joined-same, length-joined, joined-at}
-use Rattle.image.proofs.Words.{length-words, price-back}
+use Rattle.image.proofs.Lists.{sum-below, tabulate-list, joined-same, joined-at}
+use Rattle.image.proofs.Words.{price-back}
 use Rattle.image.proofs.Readings.{before, start, pricesAt, padded, none-bad-whole}
 use Rattle.image.proofs.Markets.{price-fits, marketAt, at-below, at-place, prices-are, placed, placed-length, placed-used, placed-unused}
-use Rattle.image.proofs.Heads.{widths-length, widths-size, field-at, value-first, value-second, values-length}
+use Rattle.image.proofs.Heads.{field-at, value-first, value-second}
 use Rattle.image.proofs.Typed.{Typed, threshold-fits, limits-fit, fit-of}
 use Rattle.image.proofs.Lengths.{head-length, length-counted, length-image}
 use Rattle.image.proofs.Books.{anewWith, book-values}

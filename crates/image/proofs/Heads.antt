@@ -3,7 +3,7 @@ use mathlib.Core.Path.{_≡_, refl, ap, _∙_}
 use mathlib.Core.List.{List, [], _∷_, _++_}
 use Prim.Native.Nat.{ℕ, _-_, _<_, _≤_}
 use native.Mathlib.Omega.{arith}
-use lib.ListN.{length, getD, take, length-append}
+use lib.ListN.{length, getD, take, replicate, length-append, getD-replicate}
 use mir.Syntax.{w32, w64}
 use mir.Val.{ofZ}
 use Rattle.laws.specs.Bytes.{numberAt, decode, sizeOf}
@@ -89,3 +89,31 @@ seconds-are b x y z p q r = rw (p, q, r)
 pub values-are : (n : ℕ) (b : Book) (f s : List ℕ) → f ≡ firsts n b → s ≡ seconds b → f ++ (b .parents ++ (s ++ (b .counts ++ b .marks))) ≡ values n b
 unfolding values
 values-are n b f s p q = rw (p, q)
+
+-- ---- the widths, in the same five parts
+module _ (j : ℕ) where
+  abbrev firstWidths : List ℕ
+  firstWidths = 4 ∷ 2 ∷ 1 ∷ 1 ∷ 2 ∷ 1 ∷ 1 ∷ []
+
+  abbrev secondWidths : List ℕ
+  secondWidths = 4 ∷ 2 ∷ 2 ∷ 8 ∷ 4 ∷ 4 ∷ []
+
+  pub first-width : j < 7 → getD widths j 0 ≡ getD firstWidths j 0
+  unfolding widths
+  first-width h = first-at firstWidths (replicate 8 1) secondWidths (replicate 8 2) (replicate 88 1) refl refl refl refl j h
+
+  pub parent-width : 7 ≤ j → j < 15 → getD widths j 0 ≡ 1
+  unfolding widths
+  parent-width h l = parent-at firstWidths (replicate 8 1) secondWidths (replicate 8 2) (replicate 88 1) refl refl refl refl j h l ∙ getD-replicate 8 (j - 7) 1 0 (omega arith)
+
+  pub second-width : 15 ≤ j → j < 21 → getD widths j 0 ≡ getD secondWidths (j - 15) 0
+  unfolding widths
+  second-width h l = second-at firstWidths (replicate 8 1) secondWidths (replicate 8 2) (replicate 88 1) refl refl refl refl j h l
+
+  pub count-width : 21 ≤ j → j < 29 → getD widths j 0 ≡ 2
+  unfolding widths
+  count-width h l = count-at firstWidths (replicate 8 1) secondWidths (replicate 8 2) (replicate 88 1) refl refl refl refl j h l ∙ getD-replicate 8 (j - 21) 2 0 (omega arith)
+
+  pub mark-width : 29 ≤ j → j < 117 → getD widths j 0 ≡ 1
+  unfolding widths
+  mark-width h l = mark-at firstWidths (replicate 8 1) secondWidths (replicate 8 2) (replicate 88 1) refl refl refl refl j h ∙ getD-replicate 88 (j - 29) 1 0 (omega arith)

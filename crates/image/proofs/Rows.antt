@@ -1,19 +1,19 @@
 -- An image's head read field by field is the book that its numbers say. Assumes nothing.
 use mathlib.Core.Path.{_≡_, refl, ap, ap₂, _∙_}
 use mathlib.Core.List.{List, [], _∷_, _++_}
-use Prim.Native.Nat.{ℕ, zero, suc, _+_, _*_, _<_}
+use Prim.Native.Nat.{ℕ, zero, suc, _+_, _*_}
 use native.Mathlib.Omega.{arith}
 use lib.IntN.{ℤ, pos}
 use lib.ListN.{getD, take, drop, replicate}
 use lib.Seq.{drop-drop}
 use mir.Syntax.{w32, w64}
-use mir.Val.{ofZ, toZ}
+use mir.Val.{toZ}
 use Rattle.laws.specs.Lists.{run, tabulate}
-use Rattle.laws.specs.Bytes.{number, numberAt, decode, sizeOf}
+use Rattle.laws.specs.Bytes.{numberAt, decode, sizeOf}
 use Rattle.laws.proofs.Fields.{decode-drop}
 use Rattle.laws.proofs.Lists.{tabulate-same}
 use Rattle.book.specs.declared.record.Book.{Book}
-use Rattle.image.specs.Layout.{widths, seconds, nextOf, bookOf, headFrom}
+use Rattle.image.specs.Layout.{widths, nextOf, bookOf, headFrom}
 use Rattle.image.proofs.Heads.{field-at}
 
 -- n fields of one width

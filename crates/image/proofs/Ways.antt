@@ -1,16 +1,15 @@
 -- The outcome of a store, a load and the image check, by the way that each takes: what its definition comes to where its tests
 -- are decided. Assumes nothing.
-use mathlib.Core.Path.{_≡_, refl, sym, ap, _∙_}
-use mathlib.Core.Bool.{Bool, true, false, not, _&&_}
+use mathlib.Core.Path.{_≡_, sym, ap, _∙_}
+use mathlib.Core.Bool.{true, false, _&&_}
 use mathlib.Core.List.{List, _++_}
 use Prim.Native.Nat.{ℕ, _+_, _*_, _≤_, _<_}
 use native.Mathlib.Omega.{arith}
 use borrow.Author.Tests.{lt-ltb, le-ltb, eq-eqb, ne-eqb}
-use lib.Dec.{ltb, eqb}
+use lib.Dec.{eqb}
 use lib.IntN.{ℤ, pos}
 use lib.ListN.{length, drop, replicate}
 use lib.Seq.{sets}
-use Rattle.laws.specs.Base.{pick}
 use Rattle.laws.specs.Bytes.{numberAt, encode}
 use Rattle.laws.proofs.Bytes.{sets-append, sets-front}
 use Rattle.pricing.specs.Verdict.{Verdict, accepted, refused, refusedAt}
@@ -18,11 +17,10 @@ use Rattle.book.specs.declared.record.Book.{Book}
 use Rattle.book.specs.declared.record.Refusal.{Refusal}
 use Rattle.book.specs.declared.record.Answer.{Answer}
 use Rattle.book.specs.declared.record.Answer.the-variants.{Accepted, Refused}
-use Rattle.book.specs.Record.{closed, ringSize, verdictOf, verdict, isAccepted}
+use Rattle.book.specs.Record.{closed, verdictOf, verdict, isAccepted}
 use Rattle.book.specs.Validity.{valid}
-use Rattle.book.proofs.Validities.{Valid, is-valid}
+use Rattle.book.proofs.Validities.{Valid, valid-is, is-valid}
 use Rattle.book.proofs.Ways.{refusal-is}
-use Rattle.image.specs.declared.storing.Image.{Image}
 use Rattle.image.specs.declared.storing.Image.the-variants as image
 use Rattle.image.specs.Counted.{marketCount, counted, howMany}
 use Rattle.image.specs.Layout.{widths, headSize, lengthOf, values, words, imageOf, bookOf, headFrom}
@@ -31,7 +29,7 @@ use Rattle.image.specs.Storing as store
 use Rattle.image.specs.Loading.{zerosOk, headVerdict, badFrom, firstBad, ringOf, loadVerdict, checked, windowsFrom, sumsFrom, bookFrom, ringFrom, loaded}
 use Rattle.image.specs.Loading as load
 use Rattle.image.proofs.Lengths.{length-image}
-use Rattle.image.proofs.Verdicts.{head-ok, LoadOk, load-ok, ok-loaded, StoreOk, store-ok, ok-stored}
+use Rattle.image.proofs.Verdicts.{head-ok, LoadOk, load-ok, ok-load, ok-loaded, StoreOk, store-ok, ok-store, ok-stored}
 
 -- ---- an answer that says a verdict
 module _ (a : Answer) (v : Verdict) (h : verdict a ≡ v) where
@@ -95,8 +93,8 @@ module _ (l : List ℕ) (n : ℕ) where
       load-16 t = rw (a, sized, lt-ltb (firstBad l) (howMany (headFrom l)) (omega (arith, bad-is, ap howMany e)), bad-is)
 
       pub load-0 : howMany b ≤ bad → accepted ≡ loadVerdict l n
-      unfolding loadVerdict
-      load-0 t = rw (a, sized, le-ltb (firstBad l) (howMany (headFrom l)) (omega (arith, bad-is, ap howMany e)))
+      load-0 t =
+          sym (ok-load l n (record { head = head-ok l (ap isAccepted a); ring = q ∙ ap ringOf e; good = omega (arith, bad-is, ap howMany e) }))
 
 -- what a good head says of its book, for the walk over the image's prices
 pub head-ready : (l : List ℕ) → headVerdict l ≡ accepted → (b : Book) → b ≡ headFrom l → (valid b ≡ true) × (headSize + 4 * howMany b ≤ length l)
@@ -174,8 +172,7 @@ module _ (b : Book) (ring : List ℤ) (n : ℕ) where
         store-23 s = rw (p, eq-eqb (length ring) (ringOf b) q, r, lt-ltb n (lengthOf b) s)
 
         pub store-0 : lengthOf b ≤ n → accepted ≡ storeVerdict b ring n
-        unfolding storeVerdict
-        store-0 s = rw (p, eq-eqb (length ring) (ringOf b) q, r, le-ltb n (lengthOf b) s)
+        store-0 s = sym (ok-store b ring n (record { book = valid-is b p; ring-size = q; prices = r; room = s }))
 
 -- ---- the outcome of a store: head and prices one after the other are the image
 image-is : (b : Book) (ring : List ℤ) (d : List ℕ) → Valid b → length (encode widths (values (lengthOf b) b)) ≡ headSize → lengthOf b ≤ length d

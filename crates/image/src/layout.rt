@@ -23,132 +23,28 @@ pub fn image_length(book: Book) -> usize
     148 + 4 * how_many(book)
 }
 
-// How many bytes each field takes.
-const WIDTHS: [usize; 117] = [
-    4,
-    2,
-    1,
-    1,
-    2,
-    1,
-    1,
-    1,
-    1,
-    1,
-    1,
-    1,
-    1,
-    1,
-    1,
-    4,
-    2,
-    2,
-    8,
-    4,
-    4,
-    2,
-    2,
-    2,
-    2,
-    2,
-    2,
-    2,
-    2,
-    1,
-    1,
-    1,
-    1,
-    1,
-    1,
-    1,
-    1,
-    1,
-    1,
-    1,
-    1,
-    1,
-    1,
-    1,
-    1,
-    1,
-    1,
-    1,
-    1,
-    1,
-    1,
-    1,
-    1,
-    1,
-    1,
-    1,
-    1,
-    1,
-    1,
-    1,
-    1,
-    1,
-    1,
-    1,
-    1,
-    1,
-    1,
-    1,
-    1,
-    1,
-    1,
-    1,
-    1,
-    1,
-    1,
-    1,
-    1,
-    1,
-    1,
-    1,
-    1,
-    1,
-    1,
-    1,
-    1,
-    1,
-    1,
-    1,
-    1,
-    1,
-    1,
-    1,
-    1,
-    1,
-    1,
-    1,
-    1,
-    1,
-    1,
-    1,
-    1,
-    1,
-    1,
-    1,
-    1,
-    1,
-    1,
-    1,
-    1,
-    1,
-    1,
-    1,
-    1,
-    1,
-    1,
-    1,
-    1,
-];
+// How many bytes a field takes: those before the parents, and those between the parents and the counts, by a table.
+const FIRST_WIDTHS: [usize; 7] = [4, 2, 1, 1, 2, 1, 1];
+
+const SECOND_WIDTHS: [usize; 6] = [4, 2, 2, 8, 4, 4];
 
 fn width(j: usize) -> usize
     requires { ⌜ j < 117 ⌝ }
     ensures { λ r. ⌜ r ≡ getD widths j 0 ⌝ }
 {
-    WIDTHS[j]
+    if j < 7 {
+        return FIRST_WIDTHS[j];
+    }
+    if j < 15 {
+        return 1;
+    }
+    if j < 21 {
+        return SECOND_WIDTHS[j - 15];
+    }
+    if j < 29 {
+        return 2;
+    }
+    1
 }
 
 // The numbers before the parents, of an image of `size` bytes, and those between the parents and the counts.

@@ -1,6 +1,6 @@
--- `image::counted::sum_counts` meets its contract. Assumes nothing.
+-- `image::counted::sum_counts` meets its contract. The loop's invariant: what is still to go is the same at every turn. Assumes nothing.
 use mathlib.Core.Path.{_≡_}
-use Prim.Native.Nat.{_≤_, _<_, _-_, _+_, _*_}
+use Prim.Native.Nat.{_≤_, _-_, _+_, _*_}
 use native.Mathlib.Omega.{arith}
 use lib.ListN.{getD}
 use mir.Syntax.{w16}

@@ -1,7 +1,7 @@
--- `image::layout::next_places` meets its contract. Assumes nothing.
+-- `image::layout::next_places` meets its contract. The loop fills the array from the front. Assumes nothing.
 use mathlib.Core.Path.{_≡_, refl}
 use mathlib.Core.List.{_++_}
-use Prim.Native.Nat.{_≤_, _-_, _+_, _*_}
+use Prim.Native.Nat.{_≤_, _-_, _+_}
 use native.Mathlib.Omega.{arith}
 use lib.ListN.{length, getD, drop, length-set}
 use Rattle.laws.specs.Lists.{tabulate}

@@ -1,4 +1,4 @@
--- `image::layout::put_head` meets its contract. Assumes nothing.
+-- `image::layout::put_head` meets its contract. The loop's invariant: what is still to go is the same at every turn. Assumes nothing.
 use mathlib.Core.Path.{_≡_, refl, sym, ap, _∙_}
 use mathlib.Core.List.{List, _++_}
 use Prim.Native.Nat.{ℕ, _≤_, _-_, _+_}

@@ -1,9 +1,9 @@
--- `image::layout::read_parents` meets its contract. Assumes nothing.
+-- `image::layout::read_parents` meets its contract. The loop fills the array from the front. Assumes nothing.
 use mathlib.Core.Path.{_≡_, refl}
 use mathlib.Core.List.{_++_}
-use Prim.Native.Nat.{_≤_, _-_, _+_, _*_}
+use Prim.Native.Nat.{_≤_, _-_, _+_}
 use native.Mathlib.Omega.{arith}
-use lib.ListN.{length, getD, drop, length-set}
+use lib.ListN.{length, drop, length-set}
 use Rattle.laws.specs.Lists.{tabulate}
 use Rattle.laws.specs.Bytes.{numberAt}
 use Rattle.laws.proofs.Lists.{tab-none, tab-step, tab-done}

@@ -1,10 +1,9 @@
--- `image::loading::bad_in` meets its contract. Assumes nothing.
+-- `image::loading::bad_in` meets its contract. The loop's invariant: every price passed is in range. Assumes nothing.
 use mathlib.Core.Path.{_≡_, sym, ap, _∙_}
 use mathlib.Core.Bool.{false, not}
 use Prim.Native.Nat.{ℕ, _≤_, _<_, _-_}
 use native.Mathlib.Omega.{arith}
 use borrow.Author.Count.{below-more}
-use lib.IntN.{ℤ}
 use mir.Syntax.{w32}
 use mir.Val.{SFits}
 use Rattle.laws.proofs.Integers.{signed}

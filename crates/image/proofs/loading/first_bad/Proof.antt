@@ -1,4 +1,4 @@
--- `image::loading::first_bad` meets its contract. Assumes nothing.
+-- `image::loading::first_bad` meets its contract. The loop's invariant: the first bad price of the markets still to go is that of all. Assumes nothing.
 use mathlib.Core.Path.{_≡_, sym, _∙_}
 use Prim.Native.Nat.{ℕ, _≤_, _-_, _+_, _*_}
 use native.Mathlib.Omega.{arith}

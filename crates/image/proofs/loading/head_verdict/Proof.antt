@@ -1,13 +1,10 @@
 -- `image::loading::head_verdict` meets its contract. Assumes nothing.
 use mathlib.Core.Path.{_≡_, sym, ap, _∙_}
 use mathlib.Core.Bool.{true, _&&_}
-use mathlib.Core.List.{List}
-use Prim.Native.Nat.{ℕ}
 use lib.Dec.{eqb}
 use lib.ListN.{length}
 use borrow.Author.Tests.{not-true, not-false}
 use Rattle.laws.specs.Bytes.{numberAt}
-use Rattle.book.specs.declared.record.Book.{Book}
 use Rattle.book.specs.Validity.{valid}
 use Rattle.image.specs.Layout.{lengthOf, headFrom}
 use Rattle.image.specs.Loading.{zerosOk}

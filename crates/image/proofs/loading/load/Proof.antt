@@ -1,5 +1,5 @@
 -- `image::loading::load` meets its contract. Assumes nothing.
-use mathlib.Core.Path.{_≡_, sym, ap, _∙_}
+use mathlib.Core.Path.{sym, ap, _∙_}
 use Rattle.image.proofs.Verdicts.{LoadOk, ok-head}
 use lib.ListN.{length}
 use Rattle.image.specs.Loading.{ringOf}

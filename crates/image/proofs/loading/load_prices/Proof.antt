@@ -1,4 +1,4 @@
--- `image::loading::load_prices` meets its contract. Assumes nothing.
+-- `image::loading::load_prices` meets its contract. The loop's invariant: what is still to go is the same at every turn. Assumes nothing.
 use mathlib.Core.Path.{_≡_, refl, _∙_}
 use Prim.Native.Nat.{ℕ, _≤_, _-_, _+_, _*_}
 use native.Mathlib.Omega.{arith}

@@ -1,6 +1,5 @@
 -- `image::loading::number` meets its contract. Assumes nothing.
 use mathlib.Core.Path.{_≡_, sym, ap}
-use Prim.Native.Nat.{ℕ}
 use Rattle.book.specs.declared.record.Refusal.{Refusal}
 use Rattle.book.specs.Record.{verdictOf}
 use borrow.Author.Needs.{needs}

@@ -1,4 +1,4 @@
--- `image::loading::sum_prices` meets its contract. Assumes nothing.
+-- `image::loading::sum_prices` meets its contract. The loop's invariant: what is still to go is the same at every turn. Assumes nothing.
 use mathlib.Core.Path.{_≡_}
 use Prim.Native.Nat.{_≤_, _-_, _*_}
 use native.Mathlib.Omega.{arith}

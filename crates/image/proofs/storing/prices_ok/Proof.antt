@@ -1,6 +1,6 @@
--- `image::storing::prices_ok` meets its contract. Assumes nothing.
+-- `image::storing::prices_ok` meets its contract. The loop's invariant: every market passed is in order. Assumes nothing.
 use mathlib.Core.Path.{_≡_, ap, _∙_}
-use Prim.Native.Nat.{ℕ, _≤_, _-_, _*_, _/_, _%_}
+use Prim.Native.Nat.{ℕ, _≤_, _-_, _*_, _%_}
 use native.Mathlib.Omega.{arith}
 use lib.IntN.{pos}
 use lib.ListN.{getD}

@@ -1,6 +1,6 @@
--- `image::storing::window_ok` meets its contract. Assumes nothing.
+-- `image::storing::window_ok` meets its contract. The loop's invariant: the prices passed are in range, and what is still to be added is the same at every turn. Assumes nothing.
 use mathlib.Core.Path.{_≡_, ap, _∙_}
-use Prim.Native.Nat.{ℕ, _≤_, _<_, _-_, _+_, _*_}
+use Prim.Native.Nat.{_≤_, _<_, _-_, _+_, _*_}
 use native.Mathlib.Omega.{arith}
 use lib.IntN.{ℤ, pos, natAbs, _+ℤ_}
 use lib.ListN.{getD}
