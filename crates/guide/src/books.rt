@@ -317,64 +317,35 @@ fn changed_ring() {
     show(b3, 0, 0);
 }
 
-// One region with two services: a service administered caps services alone; energy administered holds all.
-fn services() {
-    say(b"services\n");
-    let mut ring = [0i32; 3];
-    let mut table = [0i32; 3];
+// An entry of one region with two services.
+fn with_services(book: Book, ring: &mut [i32], n: u32, prices: &[i32]) -> Book {
     let none = [0u8];
     let flows = [0i32];
     let factors = [0u32];
     let schedule = [0i32; 6];
-    let first = [0i32, 100000, 0];
-    let second = [90000i32, 10, 70000];
-    let third = [100000i32, 0, 0];
-    let fourth = [-70000i32, 70000, 70000];
-    let b0 = opened(guide(1, 2, 1, 0, [255; 8]), &mut ring);
-    let b1 = play(
-        b0,
-        &mut ring,
-        0,
-        &first,
-        &none,
-        &flows,
-        &factors,
-        &schedule,
-        &mut table,
-    );
-    let b2 = play(
-        b1,
-        &mut ring,
-        1,
-        &second,
-        &none,
-        &flows,
-        &factors,
-        &schedule,
-        &mut table,
-    );
-    let b3 = play(
-        b2,
-        &mut ring,
-        2,
-        &third,
-        &none,
-        &flows,
-        &factors,
-        &schedule,
-        &mut table,
-    );
+    let mut table = [0i32; 3];
     play(
-        b3,
-        &mut ring,
-        3,
-        &fourth,
+        book,
+        ring,
+        n,
+        prices,
         &none,
         &flows,
         &factors,
         &schedule,
         &mut table,
-    );
+    )
+}
+
+// A service administered caps services alone; energy administered holds all.
+fn services() {
+    say(b"services\n");
+    let mut ring = [0i32; 3];
+    let b0 = opened(guide(1, 2, 1, 0, [255; 8]), &mut ring);
+    let b1 = with_services(b0, &mut ring, 0, &[0, 100000, 0]);
+    let b2 = with_services(b1, &mut ring, 1, &[90000, 10, 70000]);
+    let b3 = with_services(b2, &mut ring, 2, &[100000, 0, 0]);
+    with_services(b3, &mut ring, 3, &[-70000, 70000, 70000]);
 }
 
 // A marked region: a scheduled service is held at 0, and the count compares with the effective price.
@@ -413,91 +384,58 @@ fn suspended() {
     );
 }
 
-fn refusals() {
+// An entry of the chain of three, with these prices, marks and factors.
+fn offered(
+    book: Book,
+    ring: &mut [i32],
+    n: u32,
+    prices: &[i32],
+    marked: &[u8],
+    factors: &[u32],
+) -> Book {
+    let flows = [0i32; 3];
+    let schedule = [0i32; 6];
+    let mut table = [0i32; 3];
+    play(
+        book,
+        ring,
+        n,
+        prices,
+        marked,
+        &flows,
+        factors,
+        &schedule,
+        &mut table,
+    )
+}
+
+// Openings that are refused, and what their books say.
+fn refused_openings() {
     say(b"refusals\n");
     let mut ring = [0i32; 3];
     let mut wrong = [0i32; 2];
-    let mut table = [0i32; 3];
-    let prices = [0i32; 3];
-    let dear = [0i32, 10000001, 0];
-    let none = [0u8; 3];
-    let two = [0u8, 0, 2];
-    let flows = [0i32; 3];
-    let factors = [0u32, 9999, 0];
-    let fair = [0u32, 10000, 20000];
-    let schedule = [0i32; 6];
     let b0 = opened(guide(3, 0, 1, 6, chain()), &mut ring);
-    let b1 = show(b0, 0, 0);
-    let b2 = opened(guide(3, 0, 1, 0, chain()), &mut wrong);
-    let b3 = show(b2, 0, 0);
-    let b4 = opened(guide(3, 0, 1, 0, chain()), &mut ring);
-    let b5 = play(
-        b4,
-        &mut wrong,
-        0,
-        &dear,
-        &two,
-        &flows,
-        &factors,
-        &schedule,
-        &mut table,
-    );
-    let b6 = play(
-        b5,
-        &mut ring,
-        1,
-        &dear,
-        &two,
-        &flows,
-        &factors,
-        &schedule,
-        &mut table,
-    );
-    let b7 = play(
-        b6,
-        &mut ring,
-        0,
-        &dear,
-        &two,
-        &flows,
-        &factors,
-        &schedule,
-        &mut table,
-    );
-    let b8 = play(
-        b7,
-        &mut ring,
-        0,
-        &dear,
-        &none,
-        &flows,
-        &factors,
-        &schedule,
-        &mut table,
-    );
-    let b9 = play(
-        b8,
-        &mut ring,
-        0,
-        &prices,
-        &none,
-        &flows,
-        &factors,
-        &schedule,
-        &mut table,
-    );
-    let b10 = play(
-        b9,
-        &mut ring,
-        0,
-        &prices,
-        &none,
-        &flows,
-        &fair,
-        &schedule,
-        &mut table,
-    );
-    show(b10, 3, 0);
+    show(b0, 0, 0);
+    let b1 = opened(guide(3, 0, 1, 0, chain()), &mut wrong);
+    show(b1, 0, 0);
+}
+
+// An entry with everything wrong, mended one thing after the other.
+fn refused_entries() {
+    let mut ring = [0i32; 3];
+    let mut wrong = [0i32; 2];
+    let dear = [0i32, 10000001, 0];
+    let two = [0u8, 0, 2];
+    let none = [0u8; 3];
+    let low = [0u32, 9999, 0];
+    let b0 = opened(guide(3, 0, 1, 0, chain()), &mut ring);
+    let b1 = offered(b0, &mut wrong, 1, &dear, &two, &low);
+    let b2 = offered(b1, &mut ring, 1, &dear, &two, &low);
+    let b3 = offered(b2, &mut ring, 0, &dear, &two, &low);
+    let b4 = offered(b3, &mut ring, 0, &dear, &none, &low);
+    let b5 = offered(b4, &mut ring, 0, &[0, 0, 0], &none, &low);
+    let b6 = offered(b5, &mut ring, 0, &[0, 0, 0], &none, &[0, 10000, 20000]);
+    show(b6, 3, 0);
 }
 
 pub fn all() {
@@ -507,5 +445,6 @@ pub fn all() {
     changed_ring();
     services();
     suspended();
-    refusals();
+    refused_openings();
+    refused_entries();
 }
