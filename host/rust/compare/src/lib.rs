@@ -1,0 +1,20 @@
+//! The compiled, proved functions behind safe names, and what the comparisons share.
+
+pub mod books;
+pub mod compiled;
+pub mod cutting;
+
+use std::io::Write;
+
+/// How many rounds a comparison runs: 1, or as the environment variable GUXHAMOLE_LONG says.
+pub fn rounds() -> u64 {
+    match std::env::var("GUXHAMOLE_LONG") {
+        Ok(rounds) => rounds.parse().expect("GUXHAMOLE_LONG: a number of rounds"),
+        Err(_) => 1,
+    }
+}
+
+/// Says what was compared, where test output is captured too.
+pub fn say(line: &str) {
+    let _ = writeln!(std::io::stderr(), "{line}");
+}

@@ -1,0 +1,203 @@
+//! "One interval" against "The ledger machine": document 01 words the book twice. Here the first wording, with running
+//! windows, period marks from step to step and limits by two sweeps over the tree, is held to the ledger.
+
+use compare::{rounds, say};
+use generator::{calls, Random};
+use independent::ledger::Entry;
+use independent::rules::{Settings, Shape};
+use independent::{Call, Ledger, Values};
+use std::collections::VecDeque;
+
+/// A book that moves from entry to entry.
+struct Running {
+    shape: Shape,
+    settings: Settings,
+    position: usize,
+    entries: u32,
+    windows: Vec<VecDeque<i32>>,
+    sums: Vec<i64>,
+    marks: Vec<bool>,
+}
+
+/// Nearest, half away from zero, by shifting half the divisor.
+fn divide(dividend: i64, divisor: i64) -> i64 {
+    (2 * dividend.abs() + divisor) / (2 * divisor) * dividend.signum()
+}
+
+/// The lesser of two limits, if there are any; floors are held negated.
+fn lesser(one: Option<i64>, other: Option<i64>) -> Option<i64> {
+    match (one, other) {
+        (Some(one), Some(other)) => Some(one.min(other)),
+        (one, other) => one.or(other),
+    }
+}
+
+impl Running {
+    fn new(ledger: &Ledger) -> Running {
+        let shape = *ledger.shape();
+        Running {
+            shape,
+            settings: ledger.settings(),
+            position: ledger.position(),
+            entries: 0,
+            windows: vec![VecDeque::new(); shape.prices()],
+            sums: vec![0; shape.prices()],
+            marks: vec![false; shape.prices()],
+        }
+    }
+
+    /// Steps 1 to 6 of an entry that is accepted: the table and the count of changed prices.
+    fn enter(&mut self, entry: &Entry) -> (Vec<i32>, u32) {
+        let (cap, floor) = (i64::from(self.settings.cap), i64::from(self.settings.floor));
+        let (regions, markets) = (self.shape.regions, self.shape.markets());
+        let mut effective = vec![0; regions * markets];
+        for (place, price) in effective.iter_mut().enumerate() {
+            let lowest = if place % markets == 0 { floor } else { 0 };
+            *price = i64::from(entry.prices[place]);
+            if entry.marks[place / markets] == 1 {
+                let row = (2 * place + usize::from(entry.kind)) * self.shape.halves;
+                *price = i64::from(entry.schedule[row + self.position / 6]).clamp(lowest, cap);
+            }
+        }
+        let mut table = effective.clone();
+        let mut caps = vec![None; regions];
+        let mut floors = vec![None; regions];
+        for region in 0..regions {
+            let row = region * markets..(region + 1) * markets;
+            let energy = region * markets;
+            if self.marks[energy] {
+                table[energy] = table[energy].clamp(floor, cap);
+                caps[region] = (effective[energy] >= cap).then_some(cap);
+                floors[region] = (effective[energy] <= floor).then_some(-floor);
+            }
+            if self.marks[row.clone()].contains(&true) {
+                for service in &mut table[row][1..] {
+                    *service = (*service).min(cap);
+                }
+            }
+        }
+        self.sweep(entry, &mut caps, &mut floors);
+        for region in 0..regions {
+            let energy = &mut table[region * markets];
+            *energy = (*energy).min(caps[region].unwrap_or(i64::MAX));
+            *energy = (*energy).max(floors[region].map_or(i64::MIN, |floor| -floor));
+        }
+        self.join_windows(entry);
+        let changed = table
+            .iter()
+            .zip(&effective)
+            .filter(|(one, other)| one != other);
+        let count = changed.count() as u32;
+        (table.iter().map(|&price| price as i32).collect(), count)
+    }
+
+    /// Step 4 by two sweeps: children to parents from the last region down, then parents to children.
+    fn sweep(&self, entry: &Entry, caps: &mut [Option<i64>], floors: &mut [Option<i64>]) {
+        let order: Vec<usize> = (0..self.shape.regions).collect();
+        for (region, upward) in order
+            .iter()
+            .rev()
+            .map(|&region| (region, true))
+            .chain(order.iter().map(|&region| (region, false)))
+        {
+            let Some(parent) = self.shape.parent(region) else {
+                continue;
+            };
+            let (flow, factor) = (entry.flows[region], i64::from(entry.factors[region]));
+            let (from, to) = match flow.signum() {
+                1 => (region, parent),
+                -1 => (parent, region),
+                _ => continue,
+            };
+            let target = if upward { parent } else { region };
+            if target == from {
+                let given = caps[to].map(|cap| divide(cap * 10_000, factor));
+                caps[from] = lesser(caps[from], given);
+            } else {
+                let given = floors[from].map(|floor| divide(floor * factor, 10_000));
+                floors[to] = lesser(floors[to], given);
+            }
+        }
+    }
+
+    /// Steps 5 and 6.
+    fn join_windows(&mut self, entry: &Entry) {
+        let last = self.position + 1 == self.shape.day();
+        for place in 0..self.shape.prices() {
+            if entry.marks[place / self.shape.markets()] == 0 {
+                let window = &mut self.windows[place];
+                if window.len() == self.shape.window {
+                    self.sums[place] -= i64::from(window.pop_front().unwrap_or(0));
+                }
+                window.push_back(entry.prices[place]);
+                self.sums[place] += i64::from(entry.prices[place]);
+            }
+            if self.sums[place] > self.settings.threshold {
+                self.marks[place] = true;
+            } else if last {
+                self.marks[place] = false;
+            }
+        }
+        self.position = (self.position + 1) % self.shape.day();
+        self.entries += 1;
+    }
+
+    fn agrees(&self, ledger: &Ledger) {
+        for place in 0..self.shape.prices() {
+            let (region, market) = (place / self.shape.markets(), place % self.shape.markets());
+            let report = ledger.report(region as u32, market as u32);
+            let report = report.expect("a used market");
+            let running = (
+                self.sums[place],
+                self.windows[place].len() as u32,
+                u32::from(self.marks[place]),
+                self.entries,
+            );
+            let told = (report.sum, report.counted, report.mark, report.entries);
+            assert_eq!(running, told, "region {region}, market {market}");
+        }
+    }
+}
+
+#[test]
+fn one_interval_is_the_ledger_machine() {
+    let (mut entries, mut changed, mut linked) = (0u64, 0u64, 0u64);
+    let (mut begun, mut ended) = (0u64, 0u64);
+    for round in 0..rounds() {
+        let mut random = Random::new(0xA_0000 + round);
+        for _ in 0..2_500 {
+            let mut ledger = calls::opened(&mut random);
+            let mut running = Running::new(&ledger);
+            for _ in 0..random.between(1, 50) {
+                let call = calls::call(&mut random, &ledger);
+                let answer = ledger.call(&call);
+                if answer.number != 0 {
+                    continue;
+                }
+                match (&call, answer.values) {
+                    (Call::Entry(entry, _, _), Values::Entry(count, table)) => {
+                        let before = running.marks.clone();
+                        assert_eq!(running.enter(entry), (table, count), "{entry:?}");
+                        entries += 1;
+                        changed += u64::from(count > 0);
+                        linked += u64::from(entry.flows.iter().any(|&flow| flow != 0) && count > 0);
+                        for (was, is) in before.iter().zip(&running.marks) {
+                            begun += u64::from(!was && *is);
+                            ended += u64::from(*was && !is);
+                        }
+                    }
+                    (Call::Threshold(threshold), _) => running.settings.threshold = *threshold,
+                    (Call::Limits(cap, floor), _) => {
+                        (running.settings.cap, running.settings.floor) = (*cap, *floor);
+                    }
+                    _ => {}
+                }
+            }
+            running.agrees(&ledger);
+        }
+    }
+    say(&format!(
+        "interval: {entries} entries, {changed} with changed prices ({linked} with flows), {begun} periods begun, {ended} ended"
+    ));
+    assert!(changed >= 2_000 && begun >= 2_000 && ended >= 2_000);
+}

@@ -1,0 +1,215 @@
+//! What document 01 states of the ledger, over generated lists of calls.
+
+use compare::{rounds, say};
+use generator::{calls, images, Random};
+use independent::{image, Answer, Call, Ledger, Report, Values};
+use std::collections::BTreeMap;
+
+/// Every used market's report.
+fn reports(ledger: &Ledger) -> Vec<Report> {
+    let shape = ledger.shape();
+    let (regions, markets) = (shape.regions as u32, shape.markets() as u32);
+    let used = (0..regions).flat_map(|region| (0..markets).map(move |market| (region, market)));
+    used.map(|(region, market)| ledger.report(region, market).expect("a used market"))
+        .collect()
+}
+
+/// The ledger that the image leads to, by the independent reader.
+fn reloaded(ledger: &Ledger) -> Ledger {
+    let image = ledger.image();
+    let mut buffer = vec![0xAA; image.len() + 3];
+    assert_eq!(ledger.store(&mut buffer), Ok(image.len()));
+    assert_eq!(buffer[..image.len()], image);
+    assert_eq!(buffer[image.len()..], [0xAA; 3]);
+    Ledger::load(&image, ledger.shape().ring()).expect("an image that loads")
+}
+
+/// "answers zeros beside number and place", the table as it was lent.
+fn zeros(call: &Call, answer: &Answer) {
+    match (call, &answer.values) {
+        (Call::Entry(_, _, lent), Values::Entry(count, table)) => {
+            assert_eq!((0, lent), (*count, table));
+        }
+        (Call::Report(..), Values::Report(report)) => {
+            let Report {
+                sum,
+                counted,
+                mark,
+                entries,
+            } = *report;
+            assert_eq!((sum, counted, mark, entries), (0, 0, 0, 0));
+        }
+        (_, values) => assert_eq!(*values, Values::Nothing),
+    }
+}
+
+/// A name for a call's answer, to see that lists meet all of them.
+fn outcome(call: &Call, answer: &Answer) -> (&'static str, u32) {
+    let name = match call {
+        Call::Entry(..) => "entry",
+        Call::Threshold(_) => "threshold",
+        Call::Limits(..) => "limits",
+        Call::Report(..) => "report",
+        Call::Restart(..) => "restart",
+    };
+    (name, answer.number)
+}
+
+/// Plays a list over a ledger and over one that is loaded anew at each restart, checking every property at every call.
+fn play(random: &mut Random, from: &Ledger, met: &mut BTreeMap<(&'static str, u32), u64>) {
+    let mut ledger = from.clone();
+    let mut restarted = from.clone();
+    for _ in 0..random.between(1, 40) {
+        let call = calls::call(random, &ledger);
+        let before = ledger.clone();
+        let answer = ledger.call(&call);
+        *met.entry(outcome(&call, &answer)).or_default() += 1;
+        if answer.number != 0 {
+            assert_eq!(
+                ledger, before,
+                "{call:?} refused by {answer:?} changed the ledger"
+            );
+            zeros(&call, &answer);
+        }
+        assert_eq!(restarted.call(&call), answer, "{call:?} after restarts");
+        if matches!(call, Call::Restart(..)) && answer.number == 0 {
+            assert_eq!(ledger, before);
+            restarted = reloaded(&restarted);
+            assert_eq!(reports(&restarted), reports(&ledger));
+        }
+    }
+    let view = reloaded(&ledger);
+    assert_eq!(reports(&view), reports(&ledger));
+    assert_eq!(view.image(), ledger.image());
+    assert_eq!(restarted.image(), ledger.image());
+}
+
+#[test]
+fn lists_of_calls() {
+    let mut met = BTreeMap::new();
+    let lists = 2_500;
+    for round in 0..rounds() {
+        let mut random = Random::new(0x6_0000 + round);
+        for turn in 0..lists {
+            let from = if turn % 4 == 0 {
+                let image = images::composed(&mut random);
+                let fields = image::Fields::read(&image);
+                Ledger::load(&image, fields.shape().ring()).expect("a valid image")
+            } else {
+                calls::opened(&mut random)
+            };
+            play(&mut random, &from, &mut met);
+        }
+    }
+    let all: u64 = met.values().sum();
+    say(&format!(
+        "lists: {} of {all} calls, answers {met:?}",
+        lists * rounds()
+    ));
+    let refusals = (11..=17).map(|number| ("entry", number));
+    let others = [
+        ("threshold", 18),
+        ("limits", 19),
+        ("report", 21),
+        ("restart", 23),
+        ("restart", 11),
+    ];
+    for outcome in refusals.chain(others) {
+        let times = met.get(&outcome).copied().unwrap_or(0);
+        assert!(times >= 20, "{outcome:?} met too seldom");
+    }
+    for (name, number) in met.keys() {
+        assert!(*number != 10 && *number != 22, "{name} refused by {number}");
+    }
+}
+
+/// A restart after each of 0 to 3 × W + 2 entries, windows of 1 to 6.
+#[test]
+fn restarts_at_every_phase() {
+    let mut random = Random::new(0x7_0000);
+    for window in 1..=6 {
+        for services in [0, 1] {
+            let mut opening = compare::books::opening(3, services, window, 1);
+            opening.parents = compare::books::parents(&[255, 0, 0]);
+            for phase in 0..3 * window + 3 {
+                let mut ledger = compare::books::open(&opening);
+                let mut restarted = ledger.clone();
+                for turn in 0..4 * window + 4 {
+                    if turn == phase {
+                        restarted = reloaded(&restarted);
+                    }
+                    let entry = calls::entry(&mut random, &ledger);
+                    let lent = vec![0; ledger.shape().prices()];
+                    let call = Call::Entry(entry, ledger.shape().ring(), lent);
+                    assert_eq!(ledger.call(&call), restarted.call(&call));
+                    assert_eq!(reports(&ledger), reports(&restarted));
+                    assert_eq!(ledger.image(), restarted.image());
+                }
+            }
+        }
+    }
+}
+
+/// "The round trip holds over images as laid out here": an image that loads is stored again as the same bytes; a wrong
+/// ring is refused by 11, and only where nothing before it is.
+#[test]
+fn images_round_trip() {
+    let (mut loaded, mut wrong_ring) = (0, 0);
+    for round in 0..rounds() {
+        let mut random = Random::new(0x8_0000 + round);
+        for _ in 0..20_000 {
+            let valid = images::composed(&mut random);
+            let bytes = if random.chance(50) {
+                images::damaged(&mut random, &valid)
+            } else {
+                valid
+            };
+            let answer = image::check(&bytes);
+            if answer == 0 || answer == 16 {
+                let ring = image::Fields::read(&bytes).shape().ring();
+                let number = |ring| Ledger::load(&bytes, ring).map_or_else(|r| r.number, |_| 0);
+                assert_eq!(number(ring), answer);
+                assert_eq!((number(ring + 1), number(ring - 1)), (11, 11));
+                wrong_ring += 2;
+                if let Ok(ledger) = Ledger::load(&bytes, ring) {
+                    assert_eq!(ledger.image(), bytes);
+                    loaded += 1;
+                }
+            } else {
+                let refusal = Ledger::load(&bytes, 0).expect_err("a refused image");
+                assert_eq!((refusal.number, refusal.place), (answer, 0));
+            }
+        }
+    }
+    say(&format!(
+        "round trip: {loaded} images loaded and stored, {wrong_ring} wrong rings"
+    ));
+}
+
+/// Openings at and past every bound: only the listed numbers, and a ledger exactly when every setting is allowed.
+#[test]
+fn openings() {
+    let mut met = BTreeMap::new();
+    for round in 0..rounds() {
+        let mut random = Random::new(0x9_0000 + round);
+        for _ in 0..50_000 {
+            let (opening, ring) = calls::damaged_opening(&mut random);
+            let number = match Ledger::open(&opening, ring) {
+                Ok(ledger) => {
+                    assert_eq!(image::check(&ledger.image()), 0);
+                    0
+                }
+                Err(refusal) => {
+                    assert_eq!(refusal.place, 0);
+                    refusal.number
+                }
+            };
+            *met.entry(number).or_insert(0) += 1;
+        }
+    }
+    say(&format!("openings: {met:?}"));
+    assert_eq!(
+        met.keys().copied().collect::<Vec<u32>>(),
+        [0, 11, 18, 19, 20]
+    );
+}

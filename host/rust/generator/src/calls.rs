@@ -1,0 +1,359 @@
+//! Openings and lists of calls over small books, so that windows fill and days end often.
+
+use crate::random::Random;
+use independent::ledger::Entry;
+use independent::rules::NO_PARENT;
+use independent::{Call, Ledger, Opening};
+
+/// The ring length that an opening with small settings asks for.
+pub fn ring_length(opening: &Opening) -> usize {
+    let markets = u64::from(opening.services) + 1;
+    let length = u64::from(opening.regions)
+        .saturating_mul(markets)
+        .saturating_mul(opening.window.into());
+    length.min(1 << 40) as usize
+}
+
+/// Limits: the guide's, small ones at which rounding shows, the least and the most.
+fn limits(random: &mut Random) -> (i32, i32) {
+    let cap = random.pick(&[60_000, 60_000, 60_001, 1, 2, 7, 10_000_000]);
+    let floor = random.pick(&[-60_000, -60_000, -60_001, -1, -2, -7, -10_000_000]);
+    (cap, floor)
+}
+
+/// A threshold that windows of a few prices pass often, or a bound of its range.
+fn threshold(random: &mut Random, cap: i32) -> i64 {
+    let cap = i64::from(cap);
+    match random.below(10) {
+        0 => 1,
+        1 => 100_000_000_000,
+        2 => 95_000,
+        _ => random.between(1, 3 * cap),
+    }
+}
+
+/// A valid opening: R 1..8, S 0..10, W mostly 1..6, H mostly 1..3.
+pub fn opening(random: &mut Random) -> Opening {
+    let regions = if random.chance(75) {
+        random.between(1, 4)
+    } else {
+        random.between(1, 8)
+    } as u32;
+    let services = if random.chance(75) {
+        random.between(0, 2)
+    } else {
+        random.between(0, 10)
+    } as u32;
+    let window = match random.below(20) {
+        0 => random.between(7, 40),
+        1 => random.pick(&[2_015, 2_016]),
+        _ => random.between(1, 6),
+    } as u32;
+    let halves = match random.below(20) {
+        0 => random.pick(&[47, 48]),
+        _ => random.between(1, 3),
+    } as u32;
+    let mut parents = [NO_PARENT; 8];
+    let linkable = parents.iter_mut().enumerate().take(regions as usize);
+    for (region, parent) in linkable.skip(1) {
+        if random.chance(85) {
+            *parent = random.below(region) as u8;
+        }
+    }
+    let (cap, floor) = limits(random);
+    Opening {
+        regions,
+        services,
+        window,
+        halves,
+        first: random.below(6 * halves as usize) as u32,
+        parents,
+        threshold: threshold(random, cap),
+        cap,
+        floor,
+    }
+}
+
+/// An opening and a ring length, often with one, two or three settings at or past a bound.
+pub fn damaged_opening(random: &mut Random) -> (Opening, usize) {
+    let mut opening = opening(random);
+    let mut ring = ring_length(&opening);
+    for _ in 0..random.between(0, 3) {
+        match random.below(9) {
+            0 => opening.regions = random.pick(&[0, 1, 8, 9, 255, u32::MAX]),
+            1 => opening.services = random.pick(&[0, 10, 11, 255, u32::MAX]),
+            2 => opening.window = random.pick(&[0, 1, 2_016, 2_017, u32::MAX]),
+            3 => {
+                opening.halves = random.pick(&[0, 1, 48, 49, 255, u32::MAX]);
+                ring = ring_length(&opening);
+            }
+            4 => {
+                let day = opening.halves.wrapping_mul(6);
+                let (last, past) = (day.wrapping_sub(1), day.wrapping_add(1));
+                opening.first = random.pick(&[0, last, day, past, u32::MAX]);
+            }
+            5 => {
+                let region = random.below(8);
+                let bytes = [0, region as u8, (region + 1) as u8, 7, 8, 254, NO_PARENT];
+                opening.parents[region] = random.pick(&bytes);
+            }
+            6 => opening.threshold = any_threshold(random),
+            7 => (opening.cap, opening.floor) = any_limits(random),
+            _ => {
+                ring = random.pick(&[0, 1, ring.wrapping_add(1), ring.wrapping_sub(1), usize::MAX])
+            }
+        }
+        if random.chance(70) {
+            ring = ring_length(&opening);
+        }
+    }
+    (opening, ring)
+}
+
+fn any_threshold(random: &mut Random) -> i64 {
+    let most = 100_000_000_000;
+    random.pick(&[i64::MIN, -1, 0, 1, 2, most - 1, most, most + 1, i64::MAX])
+}
+
+fn any_limits(random: &mut Random) -> (i32, i32) {
+    let most = 10_000_000;
+    let cap = random.pick(&[i32::MIN, -1, 0, 1, most, most + 1, i32::MAX, 60_000]);
+    let floor = random.pick(&[i32::MIN, -most - 1, -most, -1, 0, 1, i32::MAX, -60_000]);
+    (cap, floor)
+}
+
+/// A valid price: around the limits, around the threshold's share of a window, the bounds, or anything between.
+fn price(random: &mut Random, ledger: &Ledger, market: usize) -> i32 {
+    let settings = ledger.settings();
+    let share = settings.threshold / ledger.shape().window as i64;
+    let most = 10_000_000i64;
+    let (cap, floor) = (i64::from(settings.cap), i64::from(settings.floor));
+    let nearby = random.between(-1, 1);
+    let price = match random.below(12) {
+        0 => nearby,
+        1 | 2 => cap + nearby,
+        3 | 4 => floor + nearby,
+        5 | 6 => share + nearby,
+        7 => settings.threshold + nearby,
+        8 => most + nearby,
+        9 => -most + nearby,
+        10 => random.between(-most, most),
+        _ => random.between(2 * floor, 2 * cap),
+    };
+    let price = price.clamp(-most, most) as i32;
+    if market == 0 {
+        price
+    } else {
+        price.abs()
+    }
+}
+
+fn any_number(random: &mut Random) -> i32 {
+    let most = 10_000_000;
+    let menu = [i32::MIN, -most - 1, -1, 0, 1, most + 1, i32::MAX];
+    if random.chance(50) {
+        random.pick(&menu)
+    } else {
+        random.word() as i32
+    }
+}
+
+/// A valid entry, with wild numbers where they are not looked at.
+pub fn entry(random: &mut Random, ledger: &Ledger) -> Entry {
+    let shape = *ledger.shape();
+    let settings = ledger.settings();
+    let suspension = random.pick(&[0, 0, 0, 30, 100]);
+    let marks: Vec<u8> = (0..shape.regions)
+        .map(|_| random.chance(suspension).into())
+        .collect();
+    let mut prices = Vec::new();
+    for &mark in &marks {
+        for market in 0..shape.markets() {
+            prices.push(if mark == 1 && random.chance(50) {
+                any_number(random)
+            } else {
+                price(random, ledger, market)
+            });
+        }
+    }
+    let mut factors = Vec::new();
+    for region in 0..shape.regions {
+        let linked = shape.parent(region).is_some();
+        factors.push(if !linked && random.chance(50) {
+            random.pick(&[0, 9_999, 20_001, u32::MAX])
+        } else {
+            match random.below(4) {
+                0 => random.pick(&[10_000, 20_000, 15_000, 10_001, 19_999]),
+                1 => 11_000,
+                _ => random.between(10_000, 20_000) as u32,
+            }
+        });
+    }
+    let flows = (0..shape.regions)
+        .map(|_| random.pick(&[1, 1, 1, -1, -1, -1, 0, i32::MIN, i32::MAX, 437]))
+        .collect();
+    let schedule = (0..shape.schedule())
+        .map(|_| match random.below(6) {
+            0 => any_number(random),
+            1 => settings.cap.saturating_add(random.between(-1, 1) as i32),
+            2 => settings.floor.saturating_sub(random.between(-1, 1) as i32),
+            _ => random.between(-100_000, 100_000) as i32,
+        })
+        .collect();
+    Entry {
+        number: ledger.entries_taken(),
+        kind: random.below(2) as u8,
+        prices,
+        marks,
+        flows,
+        factors,
+        schedule,
+    }
+}
+
+/// A slice made one longer, one shorter or empty.
+fn resize<T: Copy>(random: &mut Random, slice: &mut Vec<T>, spare: T) {
+    match random.below(3) {
+        0 => slice.push(spare),
+        1 => {
+            slice.pop();
+        }
+        _ => slice.clear(),
+    }
+}
+
+/// Damages an entry call: up to three things at once, so that the order of refusals shows.
+fn damage(random: &mut Random, entry: &mut Entry, ring: &mut usize, table: &mut Vec<i32>) {
+    let only_lengths = random.chance(25);
+    let rounds = random.between(1, 3);
+    for _ in 0..rounds {
+        let what = random.below(if only_lengths { 7 } else { 12 });
+        if what < 7 && !only_lengths && random.chance(80) {
+            continue;
+        }
+        match what {
+            0 => resize(random, &mut entry.prices, 0),
+            1 => resize(random, &mut entry.marks, 0),
+            2 => resize(random, &mut entry.flows, 0),
+            3 => resize(random, &mut entry.factors, 10_000),
+            4 => resize(random, &mut entry.schedule, 0),
+            5 => resize(random, table, 0),
+            6 => *ring = random.pick(&[0, *ring + 1, ring.saturating_sub(1), 2 * *ring]),
+            7 => {
+                let next = entry.number;
+                let menu = [next.wrapping_sub(1), next.wrapping_add(1), 0, u32::MAX];
+                entry.number = random.pick(&menu);
+            }
+            8 => entry.kind = random.pick(&[2, 3, 255]),
+            9 => {
+                if let Some(place) = any_place(random, entry.marks.len()) {
+                    entry.marks[place] = random.pick(&[2, 3, 254, 255]);
+                }
+            }
+            10 => {
+                if let Some(place) = any_place(random, entry.prices.len()) {
+                    let menu = [-1, 10_000_001, -10_000_001, i32::MIN, i32::MAX];
+                    entry.prices[place] = random.pick(&menu);
+                }
+            }
+            _ => {
+                if let Some(place) = any_place(random, entry.factors.len()) {
+                    entry.factors[place] = random.pick(&[0, 9_999, 20_001, u32::MAX]);
+                }
+            }
+        }
+    }
+}
+
+fn any_place(random: &mut Random, length: usize) -> Option<usize> {
+    (length > 0).then(|| random.below(length))
+}
+
+/// The next call of a list that has led to this ledger.
+pub fn call(random: &mut Random, ledger: &Ledger) -> Call {
+    let shape = *ledger.shape();
+    match random.below(100) {
+        0..=54 => {
+            let mut entry = entry(random, ledger);
+            let mut ring = shape.ring();
+            let mut table: Vec<i32> = (0..shape.prices()).map(|_| any_number(random)).collect();
+            if random.chance(20) {
+                damage(random, &mut entry, &mut ring, &mut table);
+            }
+            Call::Entry(entry, ring, table)
+        }
+        55..=66 => Call::Threshold(next_threshold(random, ledger)),
+        67..=72 => {
+            let (cap, floor) = if random.chance(50) {
+                limits(random)
+            } else {
+                any_limits(random)
+            };
+            Call::Limits(cap, floor)
+        }
+        73..=86 => {
+            let (regions, markets) = (shape.regions as u32, shape.markets() as u32);
+            let unused = [0, regions, markets, 8, 11, u32::MAX];
+            if random.chance(70) {
+                let region = random.below(shape.regions) as u32;
+                Call::Report(region, random.below(shape.markets()) as u32)
+            } else {
+                Call::Report(random.pick(&unused), random.pick(&unused))
+            }
+        }
+        _ => restart(random, ledger),
+    }
+}
+
+/// A threshold around a market's sum, as the report gives it, or around the bounds.
+fn next_threshold(random: &mut Random, ledger: &Ledger) -> i64 {
+    let shape = ledger.shape();
+    let region = random.below(shape.regions) as u32;
+    let market = random.below(shape.markets()) as u32;
+    match random.below(10) {
+        0 => any_threshold(random),
+        1 => random.between(1, 200_000),
+        _ => {
+            let report = ledger.report(region, market);
+            let sum = report.map(|report| report.sum).unwrap_or(1);
+            sum + random.between(-1, 1)
+        }
+    }
+}
+
+/// A restart: mostly a long enough buffer and the right ring, else one or both wrong.
+fn restart(random: &mut Random, ledger: &Ledger) -> Call {
+    let (image, ring) = (ledger.image().len(), ledger.shape().ring());
+    let buffer = if random.chance(80) {
+        image + random.pick(&[0, 0, 1, 40])
+    } else {
+        random.pick(&[0, 147, image - 1])
+    };
+    let ring = if random.chance(80) {
+        ring
+    } else {
+        random.pick(&[0, ring - 1, ring + 1])
+    };
+    Call::Restart(buffer, ring)
+}
+
+/// A list of calls over a book, and the ledger that it leads to.
+pub fn list(random: &mut Random, from: &Ledger, length: usize) -> (Vec<Call>, Ledger) {
+    let mut ledger = from.clone();
+    let mut calls = Vec::new();
+    for _ in 0..length {
+        let call = call(random, &ledger);
+        ledger.call(&call);
+        calls.push(call);
+    }
+    (calls, ledger)
+}
+
+/// A newly opened ledger of any valid shape.
+pub fn opened(random: &mut Random) -> Ledger {
+    let opening = opening(random);
+    match Ledger::open(&opening, ring_length(&opening)) {
+        Ok(ledger) => ledger,
+        Err(refusal) => panic!("{opening:?} refused: {refusal:?}"),
+    }
+}

@@ -1,0 +1,281 @@
+//! Images: valid ones and damaged ones.
+
+use crate::calls;
+use crate::random::Random;
+use independent::image::{Fields, HEAD};
+use independent::rules::NO_PARENT;
+
+/// An image that a list of calls leads to.
+pub fn listed(random: &mut Random) -> Vec<u8> {
+    let opened = calls::opened(random);
+    let length = random.below(14);
+    let (_, ledger) = calls::list(random, &opened, length);
+    ledger.image()
+}
+
+/// A valid image put together field by field; many of these no list leads to.
+pub fn composed(random: &mut Random) -> Vec<u8> {
+    let opening = calls::opening(random);
+    let (regions, markets) = (opening.regions as usize, opening.services as usize + 1);
+    let window = opening.window.min(40);
+    let most = window.min(6) as i64;
+    let entries = match random.below(6) {
+        0 => random.between(0, 3) as u32,
+        1 => random.pick(&[9_999_998, 9_999_999, 10_000_000]),
+        _ => random.between(0, 10_000_000) as u32,
+    };
+    let mut fields = Fields {
+        regions: opening.regions as u8,
+        services: opening.services as u8,
+        window: window as u16,
+        halves: opening.halves as u8,
+        parents: opening.parents,
+        entries,
+        position: opening.first as u16,
+        threshold: opening.threshold,
+        cap: opening.cap,
+        floor: opening.floor,
+        counts: [0; 8],
+        periods: [0; 88],
+        prices: Vec::new(),
+    };
+    for region in 0..regions {
+        let wanted = match random.below(4) {
+            0 => 0,
+            1 => most,
+            _ => random.between(0, most),
+        };
+        fields.counts[region] = wanted.min(entries.into()) as u16;
+        for market in 0..markets {
+            fields.periods[11 * region + market] = random.chance(30).into();
+            for _ in 0..fields.counts[region] {
+                let price = random.pick(&[0, 1, 250, 60_000, 9_999_999, 10_000_000]);
+                let negative = market == 0 && random.chance(50);
+                fields.prices.push(if negative { -price } else { price });
+            }
+        }
+    }
+    fields.bytes()
+}
+
+/// Writes a little-endian number where the image has room for it.
+fn put(image: &mut [u8], offset: usize, width: usize, value: i64) {
+    if offset + width <= image.len() {
+        image[offset..offset + width].copy_from_slice(&value.to_le_bytes()[..width]);
+    }
+}
+
+/// Makes the length field the image's length.
+pub fn mend_length(image: &mut [u8]) {
+    let length = image.len() as i64;
+    put(image, 0, 4, length);
+}
+
+/// The count of prices that the image's counts and markets ask for, where its head is there.
+fn prices_wanted(image: &[u8]) -> usize {
+    let two = |offset: usize| usize::from(u16::from_le_bytes([image[offset], image[offset + 1]]));
+    let counts: usize = (0..8).map(|region| two(44 + 2 * region)).sum();
+    counts * (usize::from(image[7]) + 1)
+}
+
+/// Gives the image the length that its counts ask for, if that is not long.
+fn mend_prices(image: &mut Vec<u8>) {
+    if image.len() >= HEAD {
+        let wanted = prices_wanted(image);
+        if wanted <= 1_000 {
+            image.resize(HEAD + 4 * wanted, 0);
+            mend_length(image);
+        }
+    }
+}
+
+/// One field set to a bound, one past it, or a wild value.
+fn damage_field(random: &mut Random, image: &mut [u8]) {
+    if image.len() < HEAD {
+        return;
+    }
+    let (regions, window, halves) = (image[6], image[8], image[10]);
+    let (regions, day) = (i64::from(regions), 6 * i64::from(halves));
+    let entries = i64::from(u32::from_le_bytes([
+        image[20], image[21], image[22], image[23],
+    ]));
+    let most = 10_000_000i64;
+    let highest = 100_000_000_000i64;
+    match random.below(16) {
+        0 => put(image, 0, 4, image.len() as i64 + random.between(-1, 1)),
+        1 => put(image, 4, 2, random.pick(&[0, 1, 2, 256, 257, 65_535])),
+        2 => put(
+            image,
+            6,
+            1,
+            random.pick(&[0, 1, 7, 8, 9, 255, regions - 1, regions + 1]),
+        ),
+        3 => put(image, 7, 1, random.pick(&[0, 1, 2, 9, 10, 11, 255])),
+        4 => put(
+            image,
+            8,
+            2,
+            random.pick(&[0, 1, 2, 2_015, 2_016, 2_017, 65_535]),
+        ),
+        5 => put(image, 10, 1, random.pick(&[0, 1, 2, 47, 48, 49, 255])),
+        6 => {
+            let offset = random.pick(&[11, 26, 27]);
+            put(image, offset, 1, random.pick(&[0, 1, 128, 255]));
+        }
+        7 => {
+            let region = random.below(8);
+            let none = i64::from(NO_PARENT);
+            let own = region as i64;
+            let menu = [0, own - 1, own, own + 1, 7, 8, 254, none];
+            put(image, 12 + region, 1, random.pick(&menu));
+        }
+        8 => {
+            let menu = [0, 1, 2, 3, most - 1, most, most + 1, 4_294_967_295];
+            put(image, 20, 4, random.pick(&menu));
+        }
+        9 => {
+            let menu = [0, day - 1, day, day + 1, 287, 288, 65_535];
+            put(image, 24, 2, random.pick(&menu));
+        }
+        10 => {
+            let menu = [
+                0,
+                1,
+                -1,
+                highest - 1,
+                highest,
+                highest + 1,
+                i64::MIN,
+                i64::MAX,
+            ];
+            put(image, 28, 8, random.pick(&menu));
+        }
+        11 => {
+            let menu = [0, 1, -1, most, most + 1, i64::from(i32::MAX), 2_147_483_648];
+            put(image, 36, 4, random.pick(&menu));
+        }
+        12 => {
+            let menu = [
+                0,
+                1,
+                -1,
+                -most,
+                -most - 1,
+                i64::from(i32::MIN),
+                2_147_483_647,
+            ];
+            put(image, 40, 4, random.pick(&menu));
+        }
+        13 => {
+            let window = i64::from(window);
+            let menu = [
+                0,
+                1,
+                window - 1,
+                window,
+                window + 1,
+                entries,
+                entries + 1,
+                65_535,
+            ];
+            let region = random.below(8);
+            put(image, 44 + 2 * region, 2, random.pick(&menu));
+        }
+        14 => put(
+            image,
+            60 + random.below(88),
+            1,
+            random.pick(&[0, 1, 2, 255]),
+        ),
+        _ => {
+            let prices = (image.len() - HEAD) / 4;
+            if prices > 0 {
+                let menu = [
+                    -1,
+                    0,
+                    most,
+                    most + 1,
+                    -most,
+                    -most - 1,
+                    i64::from(i32::MIN),
+                    i64::from(i32::MAX),
+                ];
+                let place = HEAD + 4 * random.below(prices);
+                put(image, place, 4, random.pick(&menu));
+            }
+        }
+    }
+}
+
+/// One byte changed, mostly in the head.
+fn damage_byte(random: &mut Random, image: &mut [u8]) {
+    if image.is_empty() {
+        return;
+    }
+    let place = if random.chance(60) {
+        random.below(image.len().min(HEAD))
+    } else {
+        random.below(image.len())
+    };
+    image[place] = match random.below(4) {
+        0 => image[place] ^ (1 << random.below(8)),
+        1 => image[place].wrapping_add(1),
+        2 => image[place].wrapping_sub(1),
+        _ => random.word() as u8,
+    };
+}
+
+/// Cut short: at any place, or near the head's end.
+fn cut(random: &mut Random, image: &mut Vec<u8>) {
+    let length = if random.chance(30) {
+        random.between(144, 152) as usize
+    } else {
+        random.below(image.len() + 1)
+    };
+    image.truncate(length);
+}
+
+/// Made longer by a few bytes, whole prices among them.
+fn lengthen(random: &mut Random, image: &mut Vec<u8>) {
+    for _ in 0..random.pick(&[1, 2, 3, 4, 8, 44]) {
+        image.push(random.word() as u8);
+    }
+}
+
+/// An image of random bytes, often with the length and kind that let them be looked at.
+pub fn scrambled(random: &mut Random) -> Vec<u8> {
+    let length = random.pick(&[0, 1, 4, 6, 147, 148, 149, 152, 156, 236, 300]);
+    let mut image: Vec<u8> = (0..length).map(|_| random.word() as u8).collect();
+    if random.chance(70) {
+        mend_length(&mut image);
+        put(&mut image, 4, 2, 1);
+    }
+    if random.chance(50) {
+        let head = image.len().min(HEAD);
+        for byte in &mut image[6.min(head)..head] {
+            if random.chance(85) {
+                *byte = 0;
+            }
+        }
+    }
+    image
+}
+
+/// A damaged copy: one to three damages, the length field or the whole length mended or not.
+pub fn damaged(random: &mut Random, image: &[u8]) -> Vec<u8> {
+    let mut image = image.to_vec();
+    for _ in 0..random.pick(&[1, 1, 1, 2, 3]) {
+        match random.below(10) {
+            0 => cut(random, &mut image),
+            1 => lengthen(random, &mut image),
+            2 | 3 => damage_byte(random, &mut image),
+            _ => damage_field(random, &mut image),
+        }
+    }
+    match random.below(4) {
+        0 => mend_length(&mut image),
+        1 => mend_prices(&mut image),
+        _ => {}
+    }
+    image
+}

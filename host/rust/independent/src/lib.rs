@@ -1,0 +1,17 @@
+//! Document 01 written a second time, from the paper alone. It shares no definition and no code with the proved book:
+//! the ledger keeps the whole history and recomputes every sum, count, position and period from it, and limits go
+//! over every route one by one. Quotations are document 01's.
+
+pub mod amount;
+pub mod calls;
+pub mod image;
+pub mod index;
+pub mod ledger;
+pub mod maker;
+pub mod publishing;
+pub mod rounding;
+pub mod rules;
+
+pub use calls::{Answer, Call, Values};
+pub use ledger::{Ledger, Report};
+pub use rules::{Opening, Refusal};

@@ -1,0 +1,181 @@
+//! Ranges and refusals that several calls share.
+
+/// A refusal's number and place. "Place is 0 unless named."
+#[derive(Clone, Copy, Debug, PartialEq, Eq)]
+pub struct Refusal {
+    pub number: u32,
+    pub place: u32,
+}
+
+/// A refusal by a number without a place.
+pub fn refusal(number: u32) -> Refusal {
+    Refusal { number, place: 0 }
+}
+
+/// A refusal at a place in the lent slice.
+pub fn refusal_at(number: u32, place: usize) -> Refusal {
+    Refusal {
+        number,
+        place: place as u32,
+    }
+}
+
+/// Refuses by a number unless something holds.
+pub fn unless(holds: bool, number: u32) -> Result<(), Refusal> {
+    if holds {
+        Ok(())
+    } else {
+        Err(refusal(number))
+    }
+}
+
+/// "10,000,000 entries taken"
+pub const MOST_ENTRIES: u32 = 10_000_000;
+
+/// "holds 255": no parent.
+pub const NO_PARENT: u8 = 255;
+
+/// What a book is "Opened with".
+#[derive(Clone, Copy, Debug, PartialEq, Eq)]
+pub struct Opening {
+    pub regions: u32,
+    pub services: u32,
+    pub window: u32,
+    pub halves: u32,
+    pub first: u32,
+    pub parents: [u8; 8],
+    pub threshold: i64,
+    pub cap: i32,
+    pub floor: i32,
+}
+
+/// The settings that never change: R, S, W, H and the parents, all within their limits.
+#[derive(Clone, Copy, Debug, PartialEq, Eq)]
+pub struct Shape {
+    pub regions: usize,
+    pub services: usize,
+    pub window: usize,
+    pub halves: usize,
+    pub parents: [u8; 8],
+}
+
+impl Shape {
+    /// "M = S+1 markets a region"
+    pub fn markets(&self) -> usize {
+        self.services + 1
+    }
+
+    /// "D = 6 × H intervals"
+    pub fn day(&self) -> usize {
+        6 * self.halves
+    }
+
+    /// "R × M prices (region by region)"
+    pub fn prices(&self) -> usize {
+        self.regions * self.markets()
+    }
+
+    /// "a lent ring of exactly R × M × W"
+    pub fn ring(&self) -> usize {
+        self.prices() * self.window
+    }
+
+    /// "(schedule R × M × 2 × H)"
+    pub fn schedule(&self) -> usize {
+        self.prices() * 2 * self.halves
+    }
+
+    /// Where a market of a region stands among R × M, region by region.
+    pub fn place(&self, region: usize, market: usize) -> usize {
+        region * self.markets() + market
+    }
+
+    /// The parent of a region, if it has one.
+    pub fn parent(&self, region: usize) -> Option<usize> {
+        let parent = self.parents[region];
+        if parent == NO_PARENT {
+            None
+        } else {
+            Some(parent as usize)
+        }
+    }
+}
+
+/// The settings that calls change. "Threshold and limit settings act from the next entry."
+#[derive(Clone, Copy, Debug, PartialEq, Eq)]
+pub struct Settings {
+    pub threshold: i64,
+    pub cap: i32,
+    pub floor: i32,
+}
+
+/// "regions R 1..8"
+pub fn regions_allowed(regions: u32) -> bool {
+    (1..=8).contains(&regions)
+}
+
+/// "services S 0..10"
+pub fn services_allowed(services: u32) -> bool {
+    services <= 10
+}
+
+/// "window W 1..2,016"
+pub fn window_allowed(window: u32) -> bool {
+    (1..=2_016).contains(&window)
+}
+
+/// "half-hours a day H 1..48"
+pub fn halves_allowed(halves: u32) -> bool {
+    (1..=48).contains(&halves)
+}
+
+/// "first position 0..D−1"
+pub fn position_allowed(position: u32, halves: u32) -> bool {
+    position < 6 * halves
+}
+
+/// "The parent of region r is a lower region linked to it, or 255 for none; region 0 and places from R up hold 255."
+pub fn parents_allowed(parents: &[u8; 8], regions: u32) -> bool {
+    (0..8u32).all(|region| {
+        let parent = parents[region as usize];
+        let may_be_linked = region > 0 && region < regions;
+        parent == NO_PARENT || (may_be_linked && u32::from(parent) < region)
+    })
+}
+
+/// "threshold 1..100,000,000,000"
+pub fn threshold_allowed(threshold: i128) -> bool {
+    (1..=100_000_000_000).contains(&threshold)
+}
+
+/// "cap 1..10,000,000"
+pub fn cap_allowed(cap: i128) -> bool {
+    (1..=10_000_000).contains(&cap)
+}
+
+/// "floor −10,000,000..−1"
+pub fn floor_allowed(floor: i128) -> bool {
+    (-10_000_000..=-1).contains(&floor)
+}
+
+/// "energy beyond ±10,000,000 or service outside 0..10,000,000". "Market 0 is energy".
+pub fn price_allowed(is_energy: bool, price: i32) -> bool {
+    if is_energy {
+        (-10_000_000..=10_000_000).contains(&price)
+    } else {
+        (0..=10_000_000).contains(&price)
+    }
+}
+
+/// "held within floor and cap (energy) or 0 and cap (service)"
+pub fn held(is_energy: bool, price: i128, cap: i32, floor: i32) -> i128 {
+    let lowest = if is_energy { i128::from(floor) } else { 0 };
+    let highest = i128::from(cap);
+    if price < lowest {
+        lowest
+    } else if price > highest {
+        highest
+    } else {
+        price
+    }
+}
