@@ -172,6 +172,25 @@ fn chain() -> [u8; 8] {
     all
 }
 
+// Two entries: the first unmarked and without flows, the second as given.
+pub fn two(
+    settings: Settings,
+    ring: &mut [i32],
+    first: &[i32],
+    none: &[u8],
+    still: &[i32],
+    second: &[i32],
+    marked: &[u8],
+    flows: &[i32],
+    factors: &[u32],
+    schedule: &[i32],
+    table: &mut [i32],
+) {
+    let b = opened(settings, ring);
+    let c = play(b, ring, 0, first, none, still, factors, schedule, table);
+    play(c, ring, 1, second, marked, flows, factors, schedule, table);
+}
+
 // The guide's three regions in a chain: entry 0 makes A administered, and entry 1 has the flows and prices given.
 fn three(prices: &[i32], flows: &[i32]) {
     let mut ring = [7i32; 3];
@@ -181,22 +200,12 @@ fn three(prices: &[i32], flows: &[i32]) {
     let factors = [10000u32, 11000, 10800];
     let schedule = [0i32; 6];
     let start = [100000i32, 90000, 85000];
-    let b = opened(guide(3, 0, 1, 0, chain()), &mut ring);
-    let c = play(
-        b,
+    two(
+        guide(3, 0, 1, 0, chain()),
         &mut ring,
-        0,
         &start,
         &none,
         &still,
-        &factors,
-        &schedule,
-        &mut table,
-    );
-    play(
-        c,
-        &mut ring,
-        1,
         prices,
         &none,
         flows,

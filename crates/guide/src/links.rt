@@ -1,7 +1,6 @@
 // Limits over links: eight regions in a chain, a star, two sources whose limits meet, rounding, and marked regions.
-use crate::books::opened;
-use crate::books::play;
 use crate::books::say;
+use crate::books::two;
 use book::record::Settings;
 
 fn settings(regions: u8, parents: [u8; 8], cap: i32, floor: i32) -> Settings {
@@ -31,22 +30,12 @@ fn eight(price: i32, flow: i32, cap: i32, floor: i32) {
     first[0] = 100000;
     let prices = [price; 8];
     let flows = [flow; 8];
-    let b = opened(settings(8, parents, cap, floor), &mut ring);
-    let c = play(
-        b,
+    two(
+        settings(8, parents, cap, floor),
         &mut ring,
-        0,
         &first,
         &none,
         &still,
-        &factors,
-        &schedule,
-        &mut table,
-    );
-    play(
-        c,
-        &mut ring,
-        1,
         &prices,
         &none,
         &flows,
@@ -68,22 +57,12 @@ fn star() {
     let flows = [0i32, 1, -1, -1];
     let first = [0i32, 0, 0, 100000];
     let prices = [90000i32, 90000, 90000, 100000];
-    let b = opened(settings(4, parents, 60000, -60000), &mut ring);
-    let c = play(
-        b,
+    two(
+        settings(4, parents, 60000, -60000),
         &mut ring,
-        0,
         &first,
         &none,
         &still,
-        &factors,
-        &schedule,
-        &mut table,
-    );
-    play(
-        c,
-        &mut ring,
-        1,
         &prices,
         &none,
         &flows,
@@ -103,22 +82,12 @@ fn two_sources(prices: &[i32], marked: &[u8], flows: &[i32], scheduled: i32) {
     let schedule = [scheduled; 6];
     let still = [0i32; 3];
     let first = [100000i32, 0, 100000];
-    let b = opened(settings(3, parents, 60000, -60000), &mut ring);
-    let c = play(
-        b,
+    two(
+        settings(3, parents, 60000, -60000),
         &mut ring,
-        0,
         &first,
         &none,
         &still,
-        &factors,
-        &schedule,
-        &mut table,
-    );
-    play(
-        c,
-        &mut ring,
-        1,
         prices,
         marked,
         flows,
@@ -139,22 +108,12 @@ fn halves(cap: i32, floor: i32, factor: u32, prices: &[i32], flow: i32) {
     let still = [0i32; 2];
     let flows = [0i32, flow];
     let first = [100000i32, 0];
-    let b = opened(settings(2, parents, cap, floor), &mut ring);
-    let c = play(
-        b,
+    two(
+        settings(2, parents, cap, floor),
         &mut ring,
-        0,
         &first,
         &none,
         &still,
-        &factors,
-        &schedule,
-        &mut table,
-    );
-    play(
-        c,
-        &mut ring,
-        1,
         prices,
         &none,
         &flows,
