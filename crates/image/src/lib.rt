@@ -1,5 +1,5 @@
 // The image of a book: store, load and the image check.
 mod counted;
-mod layout;
+pub mod layout;
 pub mod loading;
 pub mod storing;

@@ -187,7 +187,7 @@ fn load_verdict(bytes: &[u8], ring: usize) -> Answer
 }
 
 // The paper's number of a refusal.
-fn number(refusal: Refusal) -> u32
+pub fn number(refusal: Refusal) -> u32
     ensures { λ r. ⌜ r ≡ verdictOf refusal .number ⌝ }
 {
     match refusal {

@@ -23,11 +23,11 @@ use Rattle.entries.specs.Windows.{unmarked, joining, ringAfter}
 use Rattle.entries.specs.Entering.{shapeOf, termsOf, bookAfter, Outcome, enterVerdict, entered}
 use Rattle.ledger.proofs.Ranges.{Ranged}
 
-never {ℓ} : {X : Type ℓ} (t : Bool) → t ≡ true → t ≡ false → X
+pub never {ℓ} : {X : Type ℓ} (t : Bool) → t ≡ true → t ≡ false → X
 never t p q = let z : _≡_ {A = ℕ} 0 1 = cc in absurd (omega arith)
 
 -- where a choice between a refusal and the rest is an acceptance, its test failed and the rest is one
-passes : (t : Bool) (v w : Verdict) → isAccepted v ≡ false → isAccepted (pick t v w) ≡ true → (t ≡ false) × (isAccepted w ≡ true)
+pub passes : (t : Bool) (v w : Verdict) → isAccepted v ≡ false → isAccepted (pick t v w) ≡ true → (t ≡ false) × (isAccepted w ≡ true)
 passes true v w z e = never (isAccepted v) e z
 passes false v w z e = (refl, e)
 

@@ -45,7 +45,7 @@ use Rattle.book.specs.Opening.{fresh}
 use Rattle.book.proofs.Kept.{opened-is}
 
 -- what a call comes to: it is answered alike, and what is then held agrees
-abbrev Alike : Step Held → Step Ledger → Type 0
+abbrev pub Alike : Step Held → Step Ledger → Type 0
 Alike x y = (x .answer ≡ y .answer) × Agree (x .state) (y .state)
 
 module _ (s : Held) (p : Ledger) (a : Agree s p) where
@@ -132,7 +132,7 @@ module _ (s : Held) (p : Ledger) (a : Agree s p) where
         (λ q. rw q (by-test (isAccepted (says (length g))) (λ t. absurd (never-foreign g q t)) (λ t. foreign-alike g t)))
 
 -- ---- any call
-keeps : (s : Held) (p : Ledger) (c : Call) → Agree s p → Alike (Book.play s c) (Ledger.play p c)
+pub keeps : (s : Held) (p : Ledger) (c : Call) → Agree s p → Alike (Book.play s c) (Ledger.play p c)
 keeps s p (entry g number e table) a = entry-alike s p a number e table g
 keeps s p (threshold x) a = threshold-alike s p a x
 keeps s p (limits c f) a = limits-alike s p a c f
@@ -149,7 +149,7 @@ plays (c ∷ L) s p a =
     (ap₂ _∷_ (k .0) (r .0), r .1)
 
 -- the settings of a ledger never change
-settings-play : (p : Ledger) (c : Call) → Ledger.play p c .state .settings ≡ p .settings
+pub settings-play : (p : Ledger) (c : Call) → Ledger.play p c .state .settings ≡ p .settings
 unfolding Ledger.play
 settings-play p (entry g number e table) =
     by-test (isAccepted (entryVerdict (Ledger.shapeOf (p .settings)) (taken p) (length g) number e (length table))) (λ t. rw t) (λ t. rw t)

@@ -1,0 +1,25 @@
+-- `records::writing::number_in` meets its contract. Assumes nothing.
+use mathlib.Core.Path.{sym, ap, _∙_}
+use Rattle.book.specs.declared.record.Answer.{Answer}
+use Rattle.book.specs.Record.{verdict}
+use borrow.Author.Needs.{needs}
+use Rattle.records.proofs.writing.number_in.Statement.{statement}
+use Rattle.records.proofs.writing.number_in.Tie as tie
+
+enum-told : tie.Need-enum-told
+enum-told c = search needs
+
+enum-known-answer : tie.Need-enum-known-answer
+enum-known-answer c = search needs
+
+number-requires : tie.Need-number-requires
+number-requires c κs = search needs
+
+returns : tie.Need-returns
+returns c = search needs
+
+returns-2 : tie.Need-returns-2
+returns-2 c = c .number .ensures ∙ ap (λ (x : Answer). verdict x .number) (sym (c .before .before .answer .given .1))
+
+pub number-in-spec : {M : Type 1} → statement M
+number-in-spec = tie.close (tie.spec enum-told enum-known-answer number-requires returns returns-2)
