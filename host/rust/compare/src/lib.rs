@@ -1,7 +1,6 @@
-//! The compiled, proved functions behind safe names, and what the comparisons share.
+//! What the comparisons share.
 
 pub mod books;
-pub mod compiled;
 pub mod cutting;
 
 use std::io::Write;
