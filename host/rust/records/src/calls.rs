@@ -239,3 +239,72 @@ fn runs(numbers: &[i32]) -> String {
         .collect();
     format!("[{}]", written.join(", "))
 }
+
+#[cfg(test)]
+mod tests {
+    use super::*;
+
+    /// The layout by hand.
+    #[test]
+    fn opening_by_hand() {
+        let opening = Record::Opening(Opening {
+            regions: 5,
+            services: 10,
+            window: 2_016,
+            halves: 48,
+            first: 287,
+            parents: [255, 0, 1, 2, 3, 255, 255, 255],
+            threshold: 100_000_000_000,
+            cap: 60_000,
+            floor: -60_000,
+        });
+        let expected = [
+            &[38, 0, 0, 0, 64, 0, 5, 10, 0xE0, 0x07, 48, 0, 0x1F, 0x01][..],
+            &[255, 0, 1, 2, 3, 255, 255, 255],
+            &[0x00, 0xE8, 0x76, 0x48, 0x17, 0, 0, 0],
+            &[0x60, 0xEA, 0, 0, 0xA0, 0x15, 0xFF, 0xFF],
+        ];
+        assert_eq!(opening.bytes(), expected.concat());
+    }
+
+    #[test]
+    fn entry_by_hand() {
+        let entry = Record::Entry(Entry {
+            number: 258,
+            kind: 1,
+            prices: vec![-2, 3],
+            marks: vec![1, 0, 7],
+            flows: vec![4],
+            factors: vec![],
+            schedule: vec![5],
+            table: vec![6],
+            ring: 9,
+        });
+        let expected = [
+            &[63, 0, 0, 0, 65, 0, 2, 1, 0, 0, 1, 0][..],
+            &[2, 0, 0, 0, 3, 0, 0, 0, 1, 0, 0, 0, 0, 0, 0, 0],
+            &[1, 0, 0, 0, 1, 0, 0, 0, 9, 0, 0, 0],
+            &[0xFE, 0xFF, 0xFF, 0xFF, 3, 0, 0, 0, 1, 0, 7],
+            &[4, 0, 0, 0, 5, 0, 0, 0, 6, 0, 0, 0],
+        ];
+        assert_eq!(entry.bytes(), expected.concat());
+    }
+
+    #[test]
+    fn others_and_damage_by_hand() {
+        let limits = Record::Limits { cap: 1, floor: -1 };
+        let expected = [14, 0, 0, 0, 67, 0, 1, 0, 0, 0, 0xFF, 0xFF, 0xFF, 0xFF];
+        assert_eq!(limits.bytes(), expected);
+        let (region, market) = (7, 10);
+        let report = Record::Report { region, market };
+        let expected = [14, 0, 0, 0, 68, 0, 7, 0, 0, 0, 10, 0, 0, 0];
+        assert_eq!(report.bytes(), expected);
+        let threshold = Record::Threshold(-2).damaged(Damage::Cut(8));
+        assert_eq!(threshold.bytes(), [14, 0, 0, 0, 66, 0, 0xFE, 0xFF]);
+        let longer = Record::Restart
+            .damaged(Damage::Longer(vec![9]))
+            .damaged(Damage::length(7))
+            .damaged(Damage::kind(70));
+        assert_eq!(longer.bytes(), [7, 0, 0, 0, 70, 0, 9]);
+    }
+}
