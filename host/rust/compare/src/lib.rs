@@ -2,6 +2,7 @@
 
 pub mod books;
 pub mod cutting;
+pub mod replay;
 
 use std::io::Write;
 
