@@ -1,11 +1,12 @@
 //! Lists of calls as records: the compiled replay against the independent player.
 
 use compare::books;
+use compare::cutting::shortest_list;
 use compare::replay::same;
 use compare::{rounds, say};
 use generator::lists::{self, List};
 use generator::{calls, Random};
-use independent::player::{Played, ENDS};
+use independent::player::{play, Played, ENDS};
 use independent::{Call, Ledger, Opening};
 use records::{Record, ENTRY, LIMITS, OPENING, REPORT, RESTART, THRESHOLD};
 use std::collections::BTreeMap;
@@ -294,6 +295,39 @@ fn real_market() {
     met.say("real market");
     met.at_least(ENTRY, &[0], 250);
     met.at_least(RESTART, &[0], 20);
+}
+
+/// A list as a replay plays it that tests "at least" for "exceeds": every threshold is lower by one.
+fn at_least(list: &List) -> List {
+    let mut lower = list.clone();
+    for record in &mut lower.records {
+        match record {
+            Record::Opening(opening) if opening.threshold > 1 => opening.threshold -= 1,
+            Record::Threshold(threshold) if *threshold > 1 => *threshold -= 1,
+            _ => {}
+        }
+    }
+    lower
+}
+
+/// The comparison can fail: "Errors the trade makes: testing 'at least' for 'exceeds'" is noticed, and cutting finds a
+/// short list.
+#[test]
+fn a_wrong_replay_is_noticed() {
+    let answers = |list: &List| play(&records::bytes(&list.records), &list.lent).answers;
+    let differs = |list: &List| answers(list) != answers(&at_least(list));
+    let mut random = Random::new(0x10_0000);
+    let mut noticed = 0;
+    for _ in 0..300 {
+        let list = lists::list(&mut random, 20);
+        if differs(&list) {
+            let short = shortest_list(&list, differs).records.len();
+            assert!(short <= 12, "{short} calls are left");
+            noticed += 1;
+        }
+    }
+    say(&format!("replay, a wrong one: noticed in {noticed} of 300"));
+    assert!(noticed >= 10);
 }
 
 /// "10,000,000 entries taken"

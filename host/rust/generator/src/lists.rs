@@ -286,15 +286,24 @@ fn any_damage(random: &mut Random, record: &Record) -> Vec<Damage> {
             let longer = Damage::Longer(any_bytes(random, extra));
             vec![longer, Damage::length(width + extra as u32)]
         }
-        6 => {
-            let menu = [0, 1, 2, 3, u32::MAX, 1 << 30, 1 << 31];
-            vec![Damage::entry_length(random.below(7), random.pick(&menu))]
-        }
+        6 => vec![another_entry_length(random, &record.bytes())],
         _ => {
             let place = random.below(length);
             vec![Damage::Put(place, any_bytes(random, 1))]
         }
     }
+}
+
+/// Another one of an entry's lengths: small, the most, or one whose bytes are as many as they were, counted in 32 bits.
+fn another_entry_length(random: &mut Random, record: &[u8]) -> Damage {
+    let which = random.below(7);
+    let field = record.get(12 + 4 * which..16 + 4 * which);
+    let length = field.map_or(0, |four| {
+        u32::from_le_bytes([four[0], four[1], four[2], four[3]])
+    });
+    let wrapping = length.wrapping_add(1 << 30);
+    let menu = [0, 1, 2, 3, u32::MAX, 1 << 31, wrapping, wrapping];
+    Damage::entry_length(which, random.pick(&menu))
 }
 
 pub fn any_bytes(random: &mut Random, length: usize) -> Vec<u8> {
