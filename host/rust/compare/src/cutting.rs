@@ -1,6 +1,8 @@
-//! Makes a failing image as short and as plain as cutting makes it.
+//! Makes a failing image or list of calls as short as cutting makes it.
 
 use generator::images::mend_length;
+use generator::lists::{answer_length, List};
+use records::{Entry, Record};
 
 /// The shortest image found, by cutting bytes out and zeroing them, that still fails.
 pub fn shortest(image: &[u8], fails: impl Fn(&[u8]) -> bool) -> Vec<u8> {
@@ -39,4 +41,75 @@ fn cut_out(image: &[u8], start: usize, width: usize) -> Vec<Vec<u8>> {
     let mut mended = plain.clone();
     mend_length(&mut mended);
     vec![plain, mended]
+}
+
+/// The shortest list found, by cutting calls out and making entries plainer, that still fails.
+pub fn shortest_list(list: &List, fails: impl Fn(&List) -> bool) -> List {
+    let mut best = list.clone();
+    loop {
+        let before = best.records.len();
+        for width in [64, 16, 4, 2, 1] {
+            let mut start = 0;
+            while start < best.records.len() {
+                match calls_cut_out(&best, start, width)
+                    .into_iter()
+                    .find(|cut| fails(cut))
+                {
+                    Some(cut) => best = cut,
+                    None => start += width,
+                }
+            }
+        }
+        if best.records.len() == before {
+            return plainer(best, fails);
+        }
+    }
+}
+
+/// The list without some calls: the later entries' numbers lower by the entries cut out or as they were, the answers'
+/// room smaller by the answers cut out or as it was.
+fn calls_cut_out(list: &List, start: usize, width: usize) -> Vec<List> {
+    let end = (start + width).min(list.records.len());
+    let mut plain = list.clone();
+    let cut: Vec<Record> = plain.records.drain(start..end).collect();
+    let is_entry = |record: &&Record| matches!(record, Record::Entry(_));
+    let entries = cut.iter().filter(is_entry).count() as u32;
+    let mut mended = plain.clone();
+    for record in &mut mended.records[start..] {
+        if let Record::Entry(entry) = record {
+            entry.number = entry.number.wrapping_sub(entries);
+        }
+    }
+    let answers: usize = cut.iter().map(answer_length).sum();
+    let narrow = |list: &List| {
+        let mut narrow = list.clone();
+        narrow.lent.answers = list.lent.answers.saturating_sub(answers);
+        narrow
+    };
+    vec![narrow(&mended), narrow(&plain), mended, plain]
+}
+
+/// The list with whole slices of its entries plain, where it still fails.
+fn plainer(list: List, fails: impl Fn(&List) -> bool) -> List {
+    let steps: [fn(&mut Entry); 6] = [
+        |entry| entry.schedule.fill(0),
+        |entry| entry.table.fill(0),
+        |entry| entry.flows.fill(0),
+        |entry| entry.factors.fill(10_000),
+        |entry| entry.marks.fill(0),
+        |entry| entry.prices.fill(0),
+    ];
+    let mut best = list;
+    for place in 0..best.records.len() {
+        for step in steps {
+            let mut tried = best.clone();
+            if let Record::Entry(entry) = &mut tried.records[place] {
+                step(entry);
+            }
+            if fails(&tried) {
+                best = tried;
+            }
+        }
+    }
+    best
 }

@@ -1,8 +1,8 @@
-//! The compiled, proved functions behind safe names, and what the comparisons share.
+//! What the comparisons share.
 
 pub mod books;
-pub mod compiled;
 pub mod cutting;
+pub mod replay;
 
 use std::io::Write;
 

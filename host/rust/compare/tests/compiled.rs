@@ -1,6 +1,6 @@
 //! The compiled, proved functions against the independent ones.
 
-use compare::{compiled, cutting, rounds, say};
+use compare::{cutting, rounds, say};
 use generator::{images, indexes, Random};
 use independent::image::{self, HEAD_FAULTS};
 use independent::index::index_for_c;
@@ -9,9 +9,9 @@ use std::collections::BTreeMap;
 /// Compares one image; a difference prints the shortest image that shows one.
 fn same_check(image: &[u8]) -> u32 {
     let expected = image::check(image);
-    if compiled::image_check(image) != expected {
-        let short = cutting::shortest(image, |cut| compiled::image_check(cut) != image::check(cut));
-        let (proved, independent) = (compiled::image_check(&short), image::check(&short));
+    if wrapper::image_check(image) != expected {
+        let short = cutting::shortest(image, |cut| wrapper::image_check(cut) != image::check(cut));
+        let (proved, independent) = (wrapper::image_check(&short), image::check(&short));
         panic!("image check: compiled {proved}, independent {independent}, image {short:02x?}");
     }
     expected
@@ -155,7 +155,7 @@ fn generated_indexes() {
     for _ in 0..sets {
         let indexes::Arguments { amount, c, b, last } = indexes::arguments(&mut random);
         let expected = index_for_c(amount, c, b, last);
-        let proved = compiled::index(amount, c, b, last);
+        let proved = wrapper::index(amount, c, b, last);
         assert_eq!(proved, expected, "index({amount}, {c:?}, {b:?}, {last})");
         if expected == -30 {
             refused += 1;
@@ -179,7 +179,7 @@ fn index_bounds() {
     let mut sets = 0;
     let mut same = |amount, c, b, last| {
         sets += 1;
-        let proved = compiled::index(amount, c, b, last);
+        let proved = wrapper::index(amount, c, b, last);
         assert_eq!(
             proved,
             index_for_c(amount, c, b, last),

@@ -110,6 +110,18 @@ pub fn damaged_opening(random: &mut Random) -> (Opening, usize) {
     (opening, ring)
 }
 
+/// An opening whose threshold and limits alone are at or past a bound.
+pub fn damaged_settings(random: &mut Random) -> Opening {
+    let mut opening = opening(random);
+    if random.chance(60) {
+        opening.threshold = any_threshold(random);
+    }
+    if random.chance(60) {
+        (opening.cap, opening.floor) = any_limits(random);
+    }
+    opening
+}
+
 fn any_threshold(random: &mut Random) -> i64 {
     let most = 100_000_000_000;
     random.pick(&[i64::MIN, -1, 0, 1, 2, most - 1, most, most + 1, i64::MAX])
@@ -271,42 +283,52 @@ fn any_place(random: &mut Random, length: usize) -> Option<usize> {
 
 /// The next call of a list that has led to this ledger.
 pub fn call(random: &mut Random, ledger: &Ledger) -> Call {
-    let shape = *ledger.shape();
     match random.below(100) {
-        0..=54 => {
-            let mut entry = entry(random, ledger);
-            let mut ring = shape.ring();
-            let mut table: Vec<i32> = (0..shape.prices()).map(|_| any_number(random)).collect();
-            if random.chance(20) {
-                damage(random, &mut entry, &mut ring, &mut table);
-            }
-            Call::Entry(entry, ring, table)
-        }
+        0..=54 => any_entry(random, ledger),
         55..=66 => Call::Threshold(next_threshold(random, ledger)),
-        67..=72 => {
-            let (cap, floor) = if random.chance(50) {
-                limits(random)
-            } else {
-                any_limits(random)
-            };
-            Call::Limits(cap, floor)
-        }
-        73..=86 => {
-            let (regions, markets) = (shape.regions as u32, shape.markets() as u32);
-            let unused = [0, regions, markets, 8, 11, u32::MAX];
-            if random.chance(70) {
-                let region = random.below(shape.regions) as u32;
-                Call::Report(region, random.below(shape.markets()) as u32)
-            } else {
-                Call::Report(random.pick(&unused), random.pick(&unused))
-            }
-        }
+        67..=72 => next_limits(random),
+        73..=86 => any_report(random, ledger),
         _ => restart(random, ledger),
     }
 }
 
+/// An entry call, damaged once in five times.
+pub fn any_entry(random: &mut Random, ledger: &Ledger) -> Call {
+    let shape = *ledger.shape();
+    let mut entry = entry(random, ledger);
+    let mut ring = shape.ring();
+    let mut table: Vec<i32> = (0..shape.prices()).map(|_| any_number(random)).collect();
+    if random.chance(20) {
+        damage(random, &mut entry, &mut ring, &mut table);
+    }
+    Call::Entry(entry, ring, table)
+}
+
+/// Limits as they are set, or at and past every bound.
+pub fn next_limits(random: &mut Random) -> Call {
+    let (cap, floor) = if random.chance(50) {
+        limits(random)
+    } else {
+        any_limits(random)
+    };
+    Call::Limits(cap, floor)
+}
+
+/// A report, mostly of a used market.
+pub fn any_report(random: &mut Random, ledger: &Ledger) -> Call {
+    let shape = *ledger.shape();
+    let (regions, markets) = (shape.regions as u32, shape.markets() as u32);
+    let unused = [0, regions, markets, 8, 11, u32::MAX];
+    if random.chance(70) {
+        let region = random.below(shape.regions) as u32;
+        Call::Report(region, random.below(shape.markets()) as u32)
+    } else {
+        Call::Report(random.pick(&unused), random.pick(&unused))
+    }
+}
+
 /// A threshold around a market's sum, as the report gives it, or around the bounds.
-fn next_threshold(random: &mut Random, ledger: &Ledger) -> i64 {
+pub fn next_threshold(random: &mut Random, ledger: &Ledger) -> i64 {
     let shape = ledger.shape();
     let region = random.below(shape.regions) as u32;
     let market = random.below(shape.markets()) as u32;

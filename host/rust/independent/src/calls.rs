@@ -49,19 +49,35 @@ impl Ledger {
                 answer(self.set_limits(*cap, *floor), (), |()| Values::Nothing)
             }
             Call::Report(region, market) => {
-                let zeros = Report {
-                    sum: 0,
-                    counted: 0,
-                    mark: 0,
-                    entries: 0,
-                };
-                answer(self.report(*region, *market), zeros, Values::Report)
+                answer(self.report(*region, *market), ZEROS, Values::Report)
             }
             Call::Restart(buffer_length, ring_length) => {
                 let result = self.restart(*buffer_length, *ring_length);
                 answer(result, (), |()| Values::Nothing)
             }
         }
+    }
+}
+
+/// A refused report's numbers.
+const ZEROS: Report = Report {
+    sum: 0,
+    counted: 0,
+    mark: 0,
+    entries: 0,
+};
+
+/// "Any call on a book: 10, it is closed".
+pub fn closed_answer(call: &Call) -> Answer {
+    let values = match call {
+        Call::Entry(_, _, lent) => Values::Entry(0, lent.clone()),
+        Call::Report(..) => Values::Report(ZEROS),
+        _ => Values::Nothing,
+    };
+    Answer {
+        number: 10,
+        place: 0,
+        values,
     }
 }
 

@@ -196,7 +196,7 @@ pub fn head_fault(bytes: &[u8]) -> Option<&'static str> {
 }
 
 /// An unsigned little-endian number.
-fn number(bytes: &[u8], offset: usize, width: usize) -> u64 {
+pub(crate) fn number(bytes: &[u8], offset: usize, width: usize) -> u64 {
     let mut value = 0;
     for place in (offset..offset + width).rev() {
         value = value * 256 + u64::from(bytes[place]);

@@ -1,6 +1,7 @@
-//! Document 01 written a second time, from the paper alone. It shares no definition and no code with the proved book:
-//! the ledger keeps the whole history and recomputes every sum, count, position and period from it, and limits go
-//! over every route one by one. Quotations are document 01's.
+//! Document 01 written a second time, from the paper alone, and a player of docs/RECORDS.md over it. It shares no
+//! definition and no code with the proved book: the ledger keeps the whole history and recomputes every sum, count,
+//! position and period from it, and limits go over every route one by one. Quotations are document 01's unless a file
+//! says otherwise.
 
 pub mod amount;
 pub mod calls;
@@ -8,7 +9,9 @@ pub mod image;
 pub mod index;
 pub mod ledger;
 pub mod maker;
+pub mod player;
 pub mod publishing;
+pub mod rings;
 pub mod rounding;
 pub mod rules;
 
