@@ -215,27 +215,32 @@ impl Book {
         valid
     }
 
-    /// "a sum beyond ±20,160,000,000, an unused sum .. or mark not zero". Bits are gathered over all markets rather than
-    /// tested one by one: a sum is out of range where one of the two differences has its sign bit set.
+    /// "a sum beyond ±20,160,000,000, an unused sum .. or mark not zero". Bits are gathered over whole rows rather than markets
+    /// tested one by one: a sum is beyond its bound where one of the two differences has its sign bit set.
     fn markets_valid(&self) -> bool {
-        let (mut signs, mut marks, mut unused) = (0i64, 0u8, 0i64);
-        let sums = self.sums.as_chunks::<MARKETS>().0;
-        let marked = self.marks.as_chunks::<MARKETS>().0;
-        for (region, (sums, marked)) in sums.iter().zip(marked).enumerate() {
-            let used = if region < usize::from(self.regions) {
-                self.markets()
-            } else {
-                0
-            };
-            for (&sum, &mark) in sums[..used].iter().zip(&marked[..used]) {
-                signs |= MOST_SUM.wrapping_sub(sum) | MOST_SUM.wrapping_add(sum);
-                marks |= mark;
-            }
-            for (&sum, &mark) in sums[used..].iter().zip(&marked[used..]) {
-                unused |= sum | i64::from(mark);
+        let (regions, markets) = (usize::from(self.regions), self.markets());
+        let (mut most, mut wrong) = ([0; MARKETS], [u8::MAX; MARKETS]);
+        most[..markets].fill(MOST_SUM);
+        wrong[..markets].fill(!1);
+        let (sums, unused_sums) = self.sums.as_chunks::<MARKETS>().0.split_at(regions);
+        let (marks, unused_marks) = self.marks.as_chunks::<MARKETS>().0.split_at(regions);
+        let (mut signs, mut bits) = (0i64, 0u8);
+        for (sums, marks) in sums.iter().zip(marks) {
+            for market in 0..MARKETS {
+                let (sum, most) = (sums[market], most[market]);
+                signs |= most.wrapping_sub(sum) | most.wrapping_add(sum);
+                bits |= marks[market] & wrong[market];
             }
         }
-        signs >= 0 && marks <= 1 && unused == 0
+        let unused_sum = unused_sums
+            .as_flattened()
+            .iter()
+            .fold(0, |any, sum| any | sum);
+        let unused_mark = unused_marks
+            .as_flattened()
+            .iter()
+            .fold(0, |any, mark| any | mark);
+        signs >= 0 && unused_sum == 0 && bits | unused_mark == 0
     }
 }
 
