@@ -1,5 +1,6 @@
-/* The two functions that a C host may call. Both are proved for all arguments: they read only what they are lent, write
-   nothing, and end. Link with libcapi.a, which `rt staticlib capi` writes to target/staticlib. */
+/* The functions that a C host may call. All are proved for all arguments: they read and write only what they are lent, the
+   index and the image check write nothing, and they end. Link with libcapi.a, which `rt staticlib capi` writes to
+   target/staticlib. */
 #ifndef GUXHAMOLE_H
 #define GUXHAMOLE_H
 
@@ -24,5 +25,32 @@ int64_t guxhamole_index(uint64_t amount,
      27  `length` is not 148 + 4 x markets x (sum of counts)
      16  a price is out of its market's range */
 uint32_t guxhamole_image_check(const uint8_t *image, size_t length);
+
+/* Plays a list of calls over a book, from its opening on, and writes their answers; docs/RECORDS.md has the bytes of both.
+   Each slice is a pointer and its length in elements. No two may overlap, no pointer may be null (where a length is 0 it may
+   be any other), and none may be touched by others during the call. With M = S + 1 markets a region:
+     calls    the records, end to end, the opening first; not written to
+     answers  where the answers are written: 14 bytes a call, for an entry 18 and four a place of its table, for a report 34
+     ring     the book's prices: R x M x W places; the opening zeroes them, whatever they held
+     other    the ring that a restart loads into, R x M x W places; the two then change places. 0 without restarts
+     image    where a restart stores the book: 148 + 4 x R x M x W bytes suffice. 0 without restarts
+     numbers  room for an entry's prices, flows and schedule together: R x M + R + R x M x 2 x H places
+     factors  room for an entry's factors: R places
+     table    room for an entry's table: R x M places
+   With 8 regions of 11 markets, W 2,016 and H 48, the most that a book has, these are 177,408 places a ring, 709,780 bytes of
+   image, 8,544 numbers, 8 factors and a table of 88. More does no harm.
+   A refused call is answered with its number and place and changes nothing, and the replay goes on; a refused opening leaves a
+   closed book, which refuses every call by 10. The replay ends after the last record, or before the first one that is not whole
+   and well formed, whose contents don't fit the room lent for them, or whose answer doesn't fit.
+   Answers how many bytes of answers it wrote; the bytes after them stay. Fewer answers than calls say that it ended early.
+   What it leaves in ring, other, image, numbers, factors and table needs no keeping. */
+size_t guxhamole_replay(const uint8_t *calls, size_t calls_length,
+                        uint8_t *answers, size_t answers_length,
+                        int32_t *ring, size_t ring_length,
+                        int32_t *other, size_t other_length,
+                        uint8_t *image, size_t image_length,
+                        int32_t *numbers, size_t numbers_length,
+                        uint32_t *factors, size_t factors_length,
+                        int32_t *table, size_t table_length);
 
 #endif

@@ -1,0 +1,104 @@
+//! Measures the proved replay beside the fast one, on the same bytes: entries, restarts, and whether an entry's cost grows with
+//! the window or with the history. The one argument is the number of rounds. docs/PERFORMANCE.md says how to read the tables.
+
+mod clock;
+mod lists;
+mod proved;
+mod tables;
+mod timing;
+
+use lists::{List, Market, Trade};
+use timing::{measure, Span};
+
+/// "The real market has R 5, S 10, W 2,016, H 48."
+const REAL: Market = Market {
+    regions: 5,
+    services: 10,
+    window: 2_016,
+    halves: 48,
+};
+
+/// The smallest records: what is left is the book's own cost and a call's.
+const SMALL: Market = Market {
+    regions: 1,
+    services: 0,
+    window: 2_016,
+    halves: 1,
+};
+
+/// Entries, or restarts, in a span.
+const REAL_ENTRIES: usize = 1_000;
+const SMALL_ENTRIES: usize = 40_000;
+const RESTARTS: usize = 40;
+
+fn main() {
+    let rounds = match std::env::args().nth(1) {
+        Some(rounds) => rounds.parse().expect("a number of rounds"),
+        None => 21,
+    };
+    let rounds = std::cmp::max(rounds, 1);
+    println!(
+        "nanoseconds of processor time: median of {rounds} rounds (difference of least times)"
+    );
+    steady(rounds);
+    history(rounds);
+    restarts(rounds);
+}
+
+/// An entry's cost once the window is full.
+fn steady(rounds: usize) {
+    tables::head("an entry, window full");
+    for (market, entries) in [(REAL, REAL_ENTRIES), (SMALL, SMALL_ENTRIES)] {
+        for trade in [Trade::Free, Trade::Administered] {
+            for window in [1, 288, 2_016] {
+                let market = Market { window, ..market };
+                let full = usize::from(window);
+                let list = List::of_entries(&market, trade, full, full + 2 * entries);
+                let span = Span {
+                    from: 1 + full + entries,
+                    to: 1 + full + 2 * entries,
+                };
+                let costs = measure(&market, &list, &[span], rounds, true);
+                tables::row(&format!("{market}, {trade}"), &costs[0]);
+            }
+        }
+    }
+}
+
+/// An entry's cost from the first on: the window fills at 2,016.
+fn history(rounds: usize) {
+    let real = (REAL, REAL_ENTRIES, 6);
+    let small = (SMALL, SMALL_ENTRIES, 6);
+    for (market, entries, spans) in [real, small] {
+        tables::head(&format!("an entry by its number, {market}"));
+        let list = List::of_entries(&market, Trade::Free, 0, spans * entries);
+        let span = |number: usize| Span {
+            from: 1 + number * entries,
+            to: 1 + (number + 1) * entries,
+        };
+        let spans: Vec<Span> = (0..spans).map(span).collect();
+        let costs = measure(&market, &list, &spans, rounds, true);
+        for (span, cost) in spans.iter().zip(&costs) {
+            let (first, last) = (tables::grouped(span.from - 1), tables::grouped(span.to - 2));
+            tables::row(&format!("entries {first} to {last}"), cost);
+        }
+    }
+}
+
+/// A restart of a full real book; and one that the load refuses by 11 before it looks at a price, which leaves the store.
+fn restarts(rounds: usize) {
+    tables::head("a restart of a full book");
+    let full = usize::from(REAL.window);
+    let list = List::of_restarts(&REAL, full, 2 * RESTARTS);
+    let span = Span {
+        from: 1 + full + RESTARTS,
+        to: 1 + full + 2 * RESTARTS,
+    };
+    for (name, other) in [
+        ("store and load", true),
+        ("store, and a refused load", false),
+    ] {
+        let costs = measure(&REAL, &list, &[span], rounds, other);
+        tables::row(&format!("{REAL}, {name}"), &costs[0]);
+    }
+}

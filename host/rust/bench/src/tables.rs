@@ -1,0 +1,43 @@
+//! Prints the tables.
+
+use crate::timing::{Cost, Costs};
+
+/// A number with commas.
+pub fn grouped(number: usize) -> String {
+    let digits = number.to_string();
+    let mut grouped = String::new();
+    for (place, digit) in digits.chars().enumerate() {
+        if place > 0 && (digits.len() - place).is_multiple_of(3) {
+            grouped.push(',');
+        }
+        grouped.push(digit);
+    }
+    grouped
+}
+
+/// Whole nanoseconds, or one decimal below a hundred. Noise may put a difference of times below 0.
+fn nanoseconds(cost: f64) -> String {
+    if cost.abs() < 100.0 {
+        format!("{cost:.1}")
+    } else if cost < 0.0 {
+        format!("{cost:.0}")
+    } else {
+        grouped(cost.round() as usize)
+    }
+}
+
+pub fn head(name: &str) {
+    println!("\n{name:<52}{:>22}{:>22}{:>14}", "proved", "fast", "ratio");
+}
+
+pub fn row(name: &str, costs: &Costs) {
+    let both = |cost: &Cost| format!("{} ({})", nanoseconds(cost.median), nanoseconds(cost.least));
+    let ratio = |proved: f64, fast: f64| format!("{:.1}", proved / fast);
+    let ratios = format!(
+        "{} ({})",
+        ratio(costs.proved.median, costs.fast.median),
+        ratio(costs.proved.least, costs.fast.least)
+    );
+    let (proved, fast) = (both(&costs.proved), both(&costs.fast));
+    println!("{name:<52}{proved:>22}{fast:>22}{ratios:>14}");
+}

@@ -1,0 +1,16 @@
+//! Document 01's book by hand, for speed: the baseline that the proved functions are measured against. Running sums,
+//! lent slices, no allocation; rule 10 and every other refusal at every call, as there. Quotations are document 01's.
+
+#![no_std]
+#![forbid(unsafe_code)]
+
+pub mod book;
+mod bytes;
+pub mod entry;
+pub mod image;
+mod publishing;
+mod replay;
+
+pub use book::{Book, Opening, Refusal, Report};
+pub use entry::Entry;
+pub use replay::replay;

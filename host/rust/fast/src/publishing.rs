@@ -1,0 +1,143 @@
+//! "One interval", steps 1 to 4: effective prices, caps, and limits over links.
+
+use crate::book::{Book, MARKETS, NO_PARENT, REGIONS};
+use crate::entry::Entry;
+
+/// The limits that bind each region's energy; the extreme numbers stand for none.
+struct Limits {
+    caps: [i32; REGIONS],
+    floors: [i32; REGIONS],
+}
+
+const NO_CAP: i32 = i32::MAX;
+const NO_FLOOR: i32 = i32::MIN;
+
+impl Book {
+    /// Steps 1 to 4 into the table. Answers how many published prices differ from the effective ones.
+    pub(crate) fn publish(&self, entry: &Entry, table: &mut [i32]) -> u32 {
+        let markets = self.markets();
+        let mut limits = Limits {
+            caps: [NO_CAP; REGIONS],
+            floors: [NO_FLOOR; REGIONS],
+        };
+        let (mut limited, mut count) = (false, 0);
+        for (region, row) in table.chunks_exact_mut(markets).enumerate() {
+            self.put_effective(entry, region, row);
+            let marks = &self.marks[MARKETS * region..][..markets];
+            if marks[0] == 1 {
+                limited |= self.own_limits(row[0], region, &mut limits);
+            }
+            if marks.iter().fold(0, |any, &mark| any | mark) != 0 {
+                count += self.cap_services(&mut row[1..]);
+            }
+        }
+        if limited {
+            self.pass_on(entry, &mut limits);
+            count += bind_energy(&limits, markets, table);
+        }
+        count
+    }
+
+    /// Step 1: "the entry price, or for a marked region the schedule's number .. held within floor and cap (energy) or 0 and
+    /// cap (service)".
+    #[inline]
+    fn put_effective(&self, entry: &Entry, region: usize, row: &mut [i32]) {
+        let first = region * row.len();
+        if entry.marks[region] == 0 {
+            row.copy_from_slice(&entry.prices[first..first + row.len()]);
+            return;
+        }
+        let halves = usize::from(self.halves);
+        let half = usize::from(self.position / 6) + usize::from(entry.kind) * halves;
+        for (market, price) in row.iter_mut().enumerate() {
+            let scheduled = entry.schedule[(first + market) * 2 * halves + half];
+            let low = if market == 0 { self.floor } else { 0 };
+            *price = scheduled.clamp(low, self.cap);
+        }
+    }
+
+    /// Step 3 of a region with administered energy, which also does step 2's part for energy: energy beyond a limit has
+    /// that limit as its own. Answers whether it has one.
+    #[inline]
+    fn own_limits(&self, energy: i32, region: usize, limits: &mut Limits) -> bool {
+        if energy >= self.cap {
+            limits.caps[region] = self.cap;
+        } else if energy <= self.floor {
+            limits.floors[region] = self.floor;
+        } else {
+            return false;
+        }
+        true
+    }
+
+    /// Step 2: "every service is at most the cap". Answers how many are changed.
+    #[inline]
+    fn cap_services(&self, services: &mut [i32]) -> u32 {
+        let mut count = 0;
+        for price in services {
+            count += u32::from(*price > self.cap);
+            *price = (*price).min(self.cap);
+        }
+        count
+    }
+
+    /// Step 4. Links make a forest whose parents are lower, each goes one way, and a link's rounding keeps order; so one
+    /// pass towards the parents and one away from them bring every limit to every region that it reaches.
+    fn pass_on(&self, entry: &Entry, limits: &mut Limits) {
+        let Limits { caps, floors } = limits;
+        let regions = usize::from(self.regions);
+        for region in (1..regions).rev() {
+            let parent = usize::from(self.parents[region]);
+            if self.parents[region] == NO_PARENT {
+                continue;
+            }
+            let (flow, factor) = (entry.flows[region], entry.factors[region]);
+            if flow > 0 {
+                floors[parent] = floors[parent].max(carried_floor(floors[region], factor));
+            } else if flow < 0 {
+                caps[parent] = caps[parent].min(carried_cap(caps[region], factor));
+            }
+        }
+        for region in 1..regions {
+            let parent = usize::from(self.parents[region]);
+            if self.parents[region] == NO_PARENT {
+                continue;
+            }
+            let (flow, factor) = (entry.flows[region], entry.factors[region]);
+            if flow > 0 {
+                caps[region] = caps[region].min(carried_cap(caps[parent], factor));
+            } else if flow < 0 {
+                floors[region] = floors[region].max(carried_floor(floors[parent], factor));
+            }
+        }
+    }
+}
+
+/// "c × 10,000 / factor", to the nearest cent. A cap limit is above 0.
+fn carried_cap(cap: i32, factor: u32) -> i32 {
+    if cap == NO_CAP {
+        return NO_CAP;
+    }
+    let factor = u64::from(factor);
+    ((cap as u64 * 10_000 + factor / 2) / factor) as i32
+}
+
+/// "f × factor / 10,000", to the nearest cent, half away from zero. A floor limit is below 0.
+fn carried_floor(floor: i32, factor: u32) -> i32 {
+    if floor == NO_FLOOR {
+        return NO_FLOOR;
+    }
+    let magnitude = u64::from(floor.unsigned_abs()) * u64::from(factor);
+    -(((magnitude + 5_000) / 10_000) as i32)
+}
+
+/// "The smallest cap limit and highest floor limit bind energy." Answers how many are changed.
+fn bind_energy(limits: &Limits, markets: usize, table: &mut [i32]) -> u32 {
+    let mut count = 0;
+    for (region, row) in table.chunks_exact_mut(markets).enumerate() {
+        let bound = row[0].min(limits.caps[region]).max(limits.floors[region]);
+        count += u32::from(bound != row[0]);
+        row[0] = bound;
+    }
+    count
+}
