@@ -1,7 +1,7 @@
 // Limits over links: eight regions in a chain, a star, two sources whose limits meet, rounding, and marked regions.
-use crate::books::say;
-use crate::books::two;
 use book::record::Settings;
+use stage::say;
+use stage::two;
 
 fn settings(regions: u8, parents: [u8; 8], cap: i32, floor: i32) -> Settings {
     Settings {

@@ -2,14 +2,7 @@
 use pricing::schedule::Answer;
 use pricing::schedule::Making;
 use pricing::schedule::schedule;
-use pricing::text::amount_text;
-
-fn show_price(price: i32) {
-    let mut buffer = [0u8; 24];
-    let text = amount_text(price as i64, &mut buffer);
-    io::write_all(1, b" ");
-    io::write_all(1, text);
-}
+use stage::price;
 
 fn show_number(number: u64, place: usize) {
     io::write_all(1, b"refused ");
@@ -40,9 +33,9 @@ fn show(answer: Answer) {
     }
     let weekday = answer.weekday;
     let weekend = answer.weekend;
-    show_price(weekday[0]);
-    show_price(weekend[0]);
-    show_price(weekday[1]);
+    price(weekday[0]);
+    price(weekend[0]);
+    price(weekday[1]);
     io::write_all(1, b"\n");
 }
 

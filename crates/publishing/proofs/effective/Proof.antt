@@ -1,6 +1,7 @@
 -- `publishing::effective` meets its contract. Assumes nothing.
 use borrow.Author.Needs.{needs}
 use borrow.Author.Tests.{eq-eqb, ne-eqb}
+use mathlib.Core.Path.{_≡_}
 use Prim.Native.Nat.{_<_}
 use native.Mathlib.Omega.{arith}
 use lib.IntN.{pos}
@@ -38,15 +39,18 @@ shared-slice-copy-out-result c = omega (arith, place (c .before .before .before 
 returns : tie.Need-returns
 unfolding effective
 returns c =
+    let a = c .before .before .before .before .args in
     let q : SFits w32 (c .scheduled .result) = search needs in
-    rw (toZ-ofZ q, eq-eqb _ _ (c .before .if1 .taken)) (c .scheduled .ensures)
+    let marked : getD (a .marked .now) (a .region) 0 ≡ 1 = c .before .if1 .taken in
+    rw (toZ-ofZ q, eq-eqb _ _ marked) (c .scheduled .ensures)
 
 returns-2 : tie.Need-returns-2
 unfolding effective
 returns-2 c =
     let a = c .before .before .before .before .before .args in
     let q : SFits w32 (getD (a .prices .now) (flat (a .terms) (a .region) (a .market)) (pos 0)) = search needs in
-    rw (toZ-ofZ q, ne-eqb _ _ (c .before .before .if1 .left))
+    let unmarked : getD (a .marked .now) (a .region) 0 ≡ 1 → ⊥ = c .before .before .if1 .left in
+    rw (toZ-ofZ q, ne-eqb _ _ unmarked)
 
 pub effective-spec : {M : Type 1} → statement M
 effective-spec =

@@ -110,7 +110,7 @@ stored c =
     let w : SFits w32 (c .before .before .before .effective .result) = search needs in
     let any = c .before .before .before .before .before .before .before .before in
     found _ _ _ _ _ _ _ (any .before .administered .ensures) (any .any-administered .ensures)
-    (c .before .before .before .effective .ensures) (rw (toZ-ofZ f, toZ-ofZ g, toZ-ofZ w) at (c .published .ensures))
+    (c .before .before .before .effective .ensures) (simp (toZ-ofZ f, toZ-ofZ g, toZ-ofZ w) at (c .published .ensures))
 
 counted : (c : tie.After-one-if Inv-loop μ-loop)
     → let a = c .before .before .before .before .before .before .before .before .before .before .before .before .args in

@@ -1,13 +1,16 @@
 -- `publishing::scheduled` meets its contract: the place is in the schedule, and what stands there is held. Assumes nothing.
-use borrow.Author.Needs.{needs}
-use Prim.Native.Nat.{_<_}
+use borrow.Author.Needs.{needs, sfits-of}
+use Prim.Native.Nat.{_<_, _^_}
+use mathlib.Core.Path.{_≡_}
 use mathlib.Core.Bool.{true, false}
 use native.Mathlib.Omega.{arith}
-use lib.IntN.{pos}
+use lib.IntN.{ℤ, pos}
+use lib.Signed.{mag}
 use lib.ListN.{length, getD}
 use mir.Syntax.{w32}
-use mir.Val.{SFits}
+use mir.Val.{SFits, toZ, ofZ, hbits}
 use mir.Facts.{toZ-ofZ}
+use Rattle.pricing.specs.Holding.{held}
 use Rattle.publishing.specs.Entry.{flat, schedulePlace}
 use Rattle.publishing.specs.Effective.{scheduled}
 use Rattle.publishing.proofs.Limits.{source-fits}
@@ -56,6 +59,10 @@ shared-slice-copy-out-held c = omega (arith, place (c .before .before .before .b
 held-requires : tie.Need-held-requires
 held-requires c κs = search needs
 
+-- what is read from a slice of signed numbers, wherever it stood
+read-back : {z : ℤ} → mag z < 2 ^ hbits w32 → toZ w32 (ofZ w32 z) ≡ z
+read-back h = toZ-ofZ (sfits-of h)
+
 returns : tie.Need-returns
 unfolding scheduled
 returns c =
@@ -65,9 +72,9 @@ returns c =
     let f : SFits w32 (r .result) = search needs in
     let g = source-fits (a .terms) (s .pre .0 .0) true in
     let h = source-fits (a .terms) (s .pre .0 .0) false in
-    let p : SFits w32 (getD (a .schedule .now) (schedulePlace (a .terms) (a .kind) (a .region) (a .market)) (pos 0)) = search needs in
     let q : SFits w32 (c .held .result) = search needs in
-    let e = simp (toZ-ofZ f, toZ-ofZ g, toZ-ofZ p) at (c .held .ensures) in
+    let e : c .held .result ≡ held (getD (a .schedule .now) (schedulePlace (a .terms) (a .kind) (a .region) (a .market)) (pos 0)) (r .result) (a .terms .cap) =
+    simp (toZ-ofZ f, toZ-ofZ g, read-back, c .before .before .held-arg .given) at (c .held .ensures) in
     let d = simp (toZ-ofZ h) at (r .ensures) in
     rw (toZ-ofZ q) (rw d at e)
 

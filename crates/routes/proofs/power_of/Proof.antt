@@ -2,8 +2,13 @@
 use Rattle.laws.proofs.Lists.{getD-any}
 use borrow.Author.Needs.{needs}
 use native.Mathlib.Omega.{arith}
-use lib.IntN.{pos}
+use lib.Dec.{eqb}
+use lib.IntN.{ℤ, pos}
+use lib.Signed.{ltZ}
 use mathlib.Core.Path.{_≡_}
+use mathlib.Core.Bool.{Bool, true, false, _&&_}
+use mathlib.Core.List.{List}
+use Prim.Native.Nat.{ℕ}
 use lib.ListN.{length, getD}
 use mir.Syntax.{w32}
 use mir.Val.{SFits}
@@ -11,6 +16,13 @@ use mir.Facts.{toZ-ofZ}
 use Rattle.routes.specs.Links.{powerOf}
 use Rattle.routes.proofs.power_of.Statement.{statement}
 use Rattle.routes.proofs.power_of.Tie as tie
+
+-- the two tests, of parents that are all there
+abbrev goesUp : List ℕ → List ℤ → ℕ → ℕ → Bool
+goesUp parents flows x y = eqb (getD parents x 0) y && ltZ (pos 0) (getD flows x (pos 0))
+
+abbrev goesDown : List ℕ → List ℤ → ℕ → ℕ → Bool
+goesDown parents flows x y = eqb (getD parents y 0) x && ltZ (getD flows y (pos 0)) (pos 0)
 
 array-read-up : tie.Need-array-read-up
 array-read-up c = search needs
@@ -55,7 +67,8 @@ returns c =
     let f : SFits w32 (getD (s .flows .now) (s .x) (pos 0)) = search needs in
     let g : SFits w32 (getD (s .flows .now) (s .y) (pos 0)) = search needs in
     let n : length (s .t1) ≡ 8 = search needs in
-    rw (getD-any (s .t1) (s .x) 255 0 (omega arith), getD-any (s .t1) (s .y) 255 0 (omega arith), simp (toZ-ofZ f, toZ-ofZ g) at (c .before .if1 .taken))
+    let up : goesUp (s .t1) (s .flows .now) (s .x) (s .y) ≡ true = simp (toZ-ofZ f, toZ-ofZ g) at (c .before .if1 .taken) in
+    rw (getD-any (s .t1) (s .x) 255 0 (omega arith), getD-any (s .t1) (s .y) 255 0 (omega arith), up)
 
 returns-2 : tie.Need-returns-2
 unfolding powerOf
@@ -64,7 +77,9 @@ returns-2 c =
     let f : SFits w32 (getD (s .flows .now) (s .x) (pos 0)) = search needs in
     let g : SFits w32 (getD (s .flows .now) (s .y) (pos 0)) = search needs in
     let n : length (s .t1) ≡ 8 = search needs in
-    rw (getD-any (s .t1) (s .x) 255 0 (omega arith), getD-any (s .t1) (s .y) 255 0 (omega arith), simp (toZ-ofZ f, toZ-ofZ g) at (c .before .before .if1 .left), simp (toZ-ofZ f, toZ-ofZ g) at (c .before .if2 .taken))
+    let up : goesUp (s .t1) (s .flows .now) (s .x) (s .y) ≡ false = simp (toZ-ofZ f, toZ-ofZ g) at (c .before .before .if1 .left) in
+    let down : goesDown (s .t1) (s .flows .now) (s .x) (s .y) ≡ true = simp (toZ-ofZ f, toZ-ofZ g) at (c .before .if2 .taken) in
+    rw (getD-any (s .t1) (s .x) 255 0 (omega arith), getD-any (s .t1) (s .y) 255 0 (omega arith), up, down)
 
 returns-3 : tie.Need-returns-3
 unfolding powerOf
@@ -73,7 +88,9 @@ returns-3 c =
     let f : SFits w32 (getD (s .flows .now) (s .x) (pos 0)) = search needs in
     let g : SFits w32 (getD (s .flows .now) (s .y) (pos 0)) = search needs in
     let n : length (s .t1) ≡ 8 = search needs in
-    rw (getD-any (s .t1) (s .x) 255 0 (omega arith), getD-any (s .t1) (s .y) 255 0 (omega arith), simp (toZ-ofZ f, toZ-ofZ g) at (c .before .if1 .left), simp (toZ-ofZ f, toZ-ofZ g) at (c .if2 .left))
+    let up : goesUp (s .t1) (s .flows .now) (s .x) (s .y) ≡ false = simp (toZ-ofZ f, toZ-ofZ g) at (c .before .if1 .left) in
+    let down : goesDown (s .t1) (s .flows .now) (s .x) (s .y) ≡ false = simp (toZ-ofZ f, toZ-ofZ g) at (c .if2 .left) in
+    rw (getD-any (s .t1) (s .x) 255 0 (omega arith), getD-any (s .t1) (s .y) 255 0 (omega arith), up, down)
 
 pub power-of-spec : {M : Type 1} → statement M
 power-of-spec =

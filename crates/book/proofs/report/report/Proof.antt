@@ -1,5 +1,5 @@
 -- `book::report::report` meets its contract. Assumes nothing.
-use mathlib.Core.Path.{_≡_, sym, _∙_}
+use mathlib.Core.Path.{_≡_, refl, sym, _∙_}
 use mathlib.Core.Bool.{true}
 use Prim.Native.Nat.{_<_}
 use native.Mathlib.Omega.{arith}
@@ -75,7 +75,7 @@ returns-2 c =
 
 returns-3 : tie.Need-returns-3
 unfolding reportOf reportVerdict
-returns-3 c = rw (ok (c .before), c .if2 .left)
+returns-3 c = rw (ok (c .before), c .if2 .left) refl
 
 pub report-spec : {M : Type 1} → statement M
 report-spec =

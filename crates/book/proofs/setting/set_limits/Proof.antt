@@ -1,5 +1,5 @@
 -- `book::setting::set_limits` meets its contract. Assumes nothing.
-use mathlib.Core.Path.{_≡_, sym, _∙_}
+use mathlib.Core.Path.{_≡_, refl, sym, _∙_}
 use mathlib.Core.Bool.{true}
 use mir.Facts.{toZ-ofZ}
 use borrow.Author.Tests.{not-true, not-false}
@@ -29,7 +29,7 @@ limits-ok-requires c κs = search needs
 
 returns-2 : tie.Need-returns-2
 unfolding setLimits limitsVerdict
-returns-2 c = rw (ok (c .before .before), sym (limits-is (c .before)) ∙ not-true _ (c .if2 .taken))
+returns-2 c = rw (ok (c .before .before), sym (limits-is (c .before)) ∙ not-true _ (c .if2 .taken)) refl
 
 returns-3 : tie.Need-returns-3
 returns-3 c =

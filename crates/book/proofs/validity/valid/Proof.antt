@@ -40,7 +40,8 @@ returns c =
     let x : SFits w64 (b .threshold) = sfits-of (t .before .struct-told .given .1 .1 .1 .1 .1 .0 .1) in
     let y : SFits w32 (b .cap) = sfits-of (q .before .before .struct-told2 .given .1 .1 .1 .1 .1 .1 .0 .1) in
     let z : SFits w32 (b .floor) = sfits-of (q .before .struct-told3 .given .1 .1 .1 .1 .1 .1 .1 .0 .1) in
-    valid-by b _ _ _ _ _ _ (t .before .before .shape-ok .ensures) (c .parents-ok .ensures) (rw (toZ-ofZ x) at (t .threshold-ok .ensures))
+    valid-by b (t .before .before .shape-ok .result) (c .parents-ok .result) (t .threshold-ok .result) (q .limits-ok .result) (p .before .regions-ok .result) (c .before .places-ok .result)
+    (t .before .before .shape-ok .ensures) (c .parents-ok .ensures) (rw (toZ-ofZ x) at (t .threshold-ok .ensures))
     (rw (toZ-ofZ y, toZ-ofZ z) at (q .limits-ok .ensures)) (p .before .regions-ok .ensures) (c .before .places-ok .ensures)
 
 pub valid-spec : {M : Type 1} → statement M

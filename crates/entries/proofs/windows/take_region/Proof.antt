@@ -6,7 +6,7 @@ use borrow.Author.Needs.{needs}
 use mir.Syntax.{w32, w64}
 use mir.Val.{SFits}
 use mir.Facts.{toZ-ofZ}
-use lib.IntN.{pos}
+use lib.IntN.{pos, _+ℤ_, _-ℤ_}
 use lib.ListN.{length, getD, length-set}
 use Rattle.laws.specs.Lists.{puts}
 use Rattle.laws.proofs.Lists.{puts-none, puts-step}
@@ -115,7 +115,7 @@ loop-again c =
     let h : SFits w64 (getD (l .sums) (placeOf (a .region) (l .m)) (pos 0)) = search needs in
     let f : SFits w32 (o .result) = search needs in
     let g : SFits w32 (getD (l .ring) (placeIn (a .markets) (a .window) (a .next) (a .region) (l .m)) (pos 0)) = search needs in
-    let sum = simp toZ-ofZ at (c .moved .ensures) in
+    let sum : c .moved .result ≡ getD (l .sums) (placeOf (a .region) (l .m)) (pos 0) +ℤ (getD (a .prices .now) (a .region * a .markets + l .m) (pos 0) -ℤ o .result) = simp toZ-ofZ at (c .moved .ensures) in
     let old = simp toZ-ofZ at (o .ensures) in
     let was : getD (l .sums) (placeOf (a .region) (l .m)) (pos 0) ≡ getD (a .sums .now) (placeOf (a .region) (l .m)) (pos 0) =
     rw (l .inv .3) (sum-kept (a .markets) (a .window) (a .next) (a .region) (l .m) _ (a .sums .now)) in

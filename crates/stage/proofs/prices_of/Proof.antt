@@ -1,9 +1,9 @@
--- `guide::books::prices_of` reads within the table and ends. Assumes nothing.
+-- `stage::prices_of` reads within the table and ends. Assumes nothing.
 use borrow.Author.Needs.{needs}
 use Prim.Native.Nat.{_≤_, _-_}
 use lib.ListN.{length}
-use Rattle.guide.proofs.books.prices_of.Statement.{statement}
-use Rattle.guide.proofs.books.prices_of.Tie as tie
+use Rattle.stage.proofs.prices_of.Statement.{statement}
+use Rattle.stage.proofs.prices_of.Tie as tie
 
 abbrev Inv-loop : tie.InvT-loop
 Inv-loop table k₀ k = k ≤ length table
