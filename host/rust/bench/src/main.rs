@@ -3,7 +3,6 @@
 
 mod clock;
 mod lists;
-mod proved;
 mod tables;
 mod timing;
 

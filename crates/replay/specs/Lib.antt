@@ -1,0 +1,3 @@
+pub mod Playing
+pub mod Replay
+pub mod Promise
