@@ -1,10 +1,15 @@
-// What a C host calls: the index and the image check, over plain numbers and the host's own bytes.
+// What a C host calls: the index, the image check and the replay, over plain numbers and the host's own memory.
 use image::loading::check;
 use pricing::indexing::Answer;
 use pricing::indexing::Quarters;
 use pricing::indexing::indexed;
+use replay::replay;
 ghost use mathlib.Core.Path.{_≡_};
+ghost use lib.ListN.{length};
+ghost use lib.Seq.{sets};
 ghost use Rattle.image.specs.Loading.{checked};
+ghost use Rattle.replay.specs.Replay.{lentOf, outcome, replayed};
+ghost use Rattle.replay.specs.Promise.{promised};
 ghost use Rattle.capi.specs.Host.{year, indexAnswer};
 
 // The indexed amount in whole dollars, or -30: an amount, the four quarters of year c and of year b, last year's amount.
@@ -48,4 +53,23 @@ pub extern "C" fn guxhamole_image_check(image: &[u8]) -> u32
     ensures { λ r. ⌜ r ≡ checked (now (image .entry)) ⌝ }
 {
     check(image)
+}
+
+// Plays the list of calls in `calls`, and answers how many bytes of `answers` it wrote.
+#[no_mangle]
+pub extern "C" fn guxhamole_replay(
+    calls: &[u8],
+    answers: &mut [u8],
+    ring: &mut [i32],
+    other: &mut [i32],
+    image: &mut [u8],
+    numbers: &mut [i32],
+    factors: &mut [u32],
+    table: &mut [i32],
+) -> usize
+    ensures { λ r. ⌜ outcome r (now (answers .exit)) (now (ring .exit)) (now (other .exit)) (now (image .exit)) (now (numbers .exit)) (now (factors .exit)) (now (table .exit)) ≡ replayed (now (calls .entry)) (lentOf (now (answers .entry)) (now (ring .entry)) (now (other .entry)) (now (image .entry)) (now (numbers .entry)) (now (factors .entry)) (now (table .entry))) ⌝ }
+    ensures { λ r. ⌜ r ≡ length (promised (now (calls .entry)) (lentOf (now (answers .entry)) (now (ring .entry)) (now (other .entry)) (now (image .entry)) (now (numbers .entry)) (now (factors .entry)) (now (table .entry)))) ⌝ }
+    ensures { λ r. ⌜ now (answers .exit) ≡ sets (now (answers .entry)) 0 (promised (now (calls .entry)) (lentOf (now (answers .entry)) (now (ring .entry)) (now (other .entry)) (now (image .entry)) (now (numbers .entry)) (now (factors .entry)) (now (table .entry)))) ⌝ }
+{
+    replay(calls, answers, ring, other, image, numbers, factors, table)
 }
