@@ -16,7 +16,7 @@ use Rattle.book.specs.Record.{ringSize, verdict}
 use Rattle.book.specs.Opening as Opening
 use Rattle.records.specs.Reading.{settingsIn, opens}
 use Rattle.records.specs.Writing.{plainRecord}
-use Rattle.replay.specs.Playing.{State, stateOf}
+use Rattle.playing.specs.Playing.{State, stateOf}
 use Rattle.replay.specs.Replay.{Lent, partOf, sizeIn, mine, spare, openedOn, begins, parts, Outcome, finished, runs, turns, begun, replayed, lentOf, outcome}
 use Rattle.replay.specs.Promise.{promised}
 use Rattle.replay.proofs.Looping.{behind}

@@ -42,11 +42,12 @@ use Rattle.ledger.proofs.Theorem.{keeps, settings-play}
 use Rattle.records.specs.Reading.{Room, kindAt, lengthsAt, entryAt, entryNumber, signedAt, factorsAt, tableAt, callSize, answerSize, goes, fits}
 use Rattle.records.specs.Writing.{plainRecord, entryRecord, reportRecord}
 use Rattle.records.proofs.Written.{length-head, length-entry, length-report}
-use Rattle.replay.specs.Playing.{State, roomOf, thresholdIn, capIn, floorIn, regionIn, marketIn, threshold, limits, report, enteredAt, enteredRecord, entry, reload, restartVerdict, swapped, reloaded, restart, step}
-use Rattle.replay.specs.Promise.{Lengths, callAt, recordOf}
-use Rattle.replay.proofs.Goes.{goes-fits, fits-table, fits-ring}
+use Rattle.playing.specs.Playing.{State, roomOf, thresholdIn, capIn, floorIn, regionIn, marketIn, threshold, limits, report, enteredAt, enteredRecord, entry, reload, restartVerdict, swapped, reloaded, restart, step}
+use Rattle.playing.specs.Fed.{Lengths, callAt}
+use Rattle.replay.specs.Promise.{recordOf}
+use Rattle.playing.proofs.Goes.{goes-fits, fits-table, fits-ring}
 use Rattle.replay.proofs.Simulating.{Stepped}
-use Rattle.replay.proofs.ByKind.{Kind, is-entry, is-threshold, is-limits, is-report, is-restart, kind-of, Says, entry-says, threshold-says, limits-says, report-says, restart-says}
+use Rattle.playing.proofs.ByKind.{Kind, is-entry, is-threshold, is-limits, is-report, is-restart, kind-of, Says, entry-says, threshold-says, limits-says, report-says, restart-says}
 
 abbrev pub heldOf : State → Held
 heldOf s = record { book = s .book; ring = s .ring }

@@ -1,11 +1,7 @@
-pub mod Goes
+pub mod Looping
 pub mod Simulating
-pub mod ByKind
 pub mod Ledgers
 pub mod Refusing
 pub mod Promises
-pub mod Calling
-pub mod Parts
-pub mod Restarting
-pub mod Looping
+pub mod Turning
 pub mod Beginning

@@ -11,9 +11,9 @@ use lib.ListN.{length}
 use Rattle.laws.specs.Base.{pick}
 use Rattle.book.specs.declared.record.Book.{Book}
 use Rattle.records.specs.Reading.{Room, kindAt, callSize, answerSize, goes}
-use Rattle.replay.specs.Playing.{State, stateOf, roomOf, playable, step, swaps}
+use Rattle.playing.specs.Playing.{State, stateOf, roomOf, playable, step, swaps}
 use Rattle.replay.specs.Replay.{runs, turn, turns, Outcome, left, finished, outcome}
-use Rattle.replay.proofs.Goes.{goes-whole, goes-room, entry-whole}
+use Rattle.playing.proofs.Goes.{goes-whole, goes-room, entry-whole}
 
 -- ---- runs and turns, by one call and in the end
 module _ (c : List ℕ) (s : State) where

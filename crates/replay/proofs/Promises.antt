@@ -30,10 +30,11 @@ use Rattle.ledger.proofs.Begins.{begins}
 use Rattle.records.specs.Reading.{parentAt, settingsIn}
 use Rattle.records.specs.Writing.{plainRecord}
 use Rattle.records.proofs.Written.{length-head}
-use Rattle.replay.specs.Playing.{State}
+use Rattle.playing.specs.Playing.{State}
 use Rattle.replay.specs.Replay as Replay
 use Rattle.replay.specs.Replay.{Lent, runs, partOf, sizeIn, mine, spare, parts, opened, openedOn, begun, replayed}
-use Rattle.replay.specs.Promise.{Lengths, sizesOf, lengthsOf, callsFrom, callsIn, recordsOf, refusals, ledgerAnswers, openingVerdict, promisedFor, promised}
+use Rattle.playing.specs.Fed.{Lengths}
+use Rattle.replay.specs.Promise.{sizesOf, lengthsOf, callsFrom, callsIn, recordsOf, refusals, ledgerAnswers, openingVerdict, promisedFor, promised}
 use Rattle.replay.proofs.Simulating.{simulated}
 use Rattle.replay.proofs.Ledgers.{heldOf, Fits, fits-room, Good, ledger-steps}
 use Rattle.replay.proofs.Refusing.{refuse, refuses, Closed, refusing-steps}

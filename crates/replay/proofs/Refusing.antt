@@ -27,11 +27,12 @@ use Rattle.ledger.proofs.Checks.{entered-refused}
 use Rattle.records.specs.Reading.{kindAt, lengthsAt, entryAt, entryNumber, signedAt, factorsAt, tableAt, callSize, answerSize, goes, fits}
 use Rattle.records.specs.Writing.{plainRecord, entryRecord, reportRecord}
 use Rattle.records.proofs.Written.{length-head, length-entry, length-report}
-use Rattle.replay.specs.Playing.{State, thresholdIn, capIn, floorIn, regionIn, marketIn, threshold, limits, report, enteredAt, enteredRecord, enters, entry, restarts, restart}
-use Rattle.replay.specs.Promise.{Lengths, callAt, recordOf, refusals}
-use Rattle.replay.proofs.Goes.{goes-fits, fits-table}
+use Rattle.playing.specs.Playing.{State, thresholdIn, capIn, floorIn, regionIn, marketIn, threshold, limits, report, enteredAt, enteredRecord, enters, entry, restarts, restart}
+use Rattle.playing.specs.Fed.{Lengths, callAt}
+use Rattle.replay.specs.Promise.{recordOf, refusals}
+use Rattle.playing.proofs.Goes.{goes-fits, fits-table}
 use Rattle.replay.proofs.Simulating.{Stepped}
-use Rattle.replay.proofs.ByKind.{Kind, is-entry, is-threshold, is-limits, is-report, is-restart, kind-of, Says, entry-says, threshold-says, limits-says, report-says, restart-says}
+use Rattle.playing.proofs.ByKind.{Kind, is-entry, is-threshold, is-limits, is-report, is-restart, kind-of, Says, entry-says, threshold-says, limits-says, report-says, restart-says}
 use Rattle.replay.proofs.Ledgers.{Fits}
 
 -- the machine that refuses every call

@@ -11,10 +11,11 @@ use Rattle.laws.proofs.Tests.{by-test}
 use Rattle.laws.proofs.Bytes.{sets-append}
 use Rattle.ledger.specs.Calls.{Call, Answer, Step, answers}
 use Rattle.records.specs.Reading.{Room, callSize, answerSize, goes}
-use Rattle.replay.specs.Playing.{State, roomOf, playable, step}
+use Rattle.playing.specs.Playing.{State, roomOf, playable, step}
 use Rattle.replay.specs.Replay.{runs}
 use Rattle.replay.proofs.Looping.{runs-next, runs-stop}
-use Rattle.replay.specs.Promise.{Lengths, callAt, callsFrom, recordOf, recordsOf}
+use Rattle.playing.specs.Fed.{Lengths, callAt}
+use Rattle.replay.specs.Promise.{callsFrom, recordOf, recordsOf}
 
 module _ {G : Type 0} (play : G → Call → Step G) (c : List ℕ) (m : Lengths) (Good : State → G → Type 0) where
   -- what a call comes to: it is answered by the machine's record, and what is then had is good again

@@ -1,3 +1,2 @@
-pub mod Playing
 pub mod Replay
 pub mod Promise

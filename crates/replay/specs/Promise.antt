@@ -6,34 +6,19 @@
 use mathlib.Core.Bool.{Bool, true, false}
 use mathlib.Core.List.{List, [], _∷_, _++_}
 use Prim.Native.Nat.{ℕ, zero, suc, _+_, _-_}
-use lib.Dec.{eqb}
-use lib.IntN.{ℤ, pos}
-use lib.ListN.{length, replicate}
+use lib.ListN.{length}
 use Rattle.laws.specs.Base.{pick}
 use Rattle.pricing.specs.Verdict.{Verdict, refused}
 use Rattle.book.specs.Record.{isAccepted}
 use Rattle.book.specs.Opening.{openVerdict}
 use Rattle.ledger.specs.Calls.{Call, entry, threshold, limits, report, restart, Answer, entered, set, reported, restarted, answers, refusedAnswer}
 use Rattle.ledger.specs.Ledger as Ledger
-use Rattle.records.specs.Reading.{Room, openingSize, settingsIn, kindAt, lengthsAt, entryAt, entryNumber, tableAt, callSize, answerSize, goes}
+use Rattle.records.specs.Reading.{openingSize, settingsIn, callSize, answerSize, goes}
 use Rattle.records.specs.Writing.{plainRecord, entryRecord, reportRecord}
-use Rattle.replay.specs.Playing.{thresholdIn, capIn, floorIn, regionIn, marketIn}
+use Rattle.playing.specs.Fed.{Lengths, callAt}
 use Rattle.replay.specs.Replay.{Lent, partOf, sizeIn, begun}
 
--- ---- the calls in the bytes. Of rings and buffers P is fed the lengths alone, so that any contents do
-pub record Lengths : Type 0 where
-  pub room : Room
-  pub other : ℕ
-  pub image : ℕ
-
-unfoldable pub callAt : Lengths → List ℕ → ℕ → Call
-callAt m c at =
-    pick (eqb (kindAt c at) 65) (entry (replicate (lengthsAt c at .ring) (pos 0)) (entryNumber c at) (entryAt c at) (tableAt c at))
-    (pick (eqb (kindAt c at) 66) (threshold (thresholdIn c at))
-    (pick (eqb (kindAt c at) 67) (limits (capIn c at) (floorIn c at))
-    (pick (eqb (kindAt c at) 68) (report (regionIn c at) (marketIn c at))
-    (restart (replicate (m .image) 0) (replicate (m .other) (pos 0))))))
-
+-- ---- the calls in the bytes
 -- at most so many calls from a place, with so many bytes left for the answers
 unfoldable pub callsFrom : ℕ → Lengths → List ℕ → ℕ → ℕ → List Call
 callsFrom zero m c at left = []

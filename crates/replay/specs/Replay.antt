@@ -13,7 +13,7 @@ use Rattle.book.specs.Record.{ringSize}
 use Rattle.book.specs.Opening as Opening
 use Rattle.records.specs.Reading.{openingSize, settingsIn, opens}
 use Rattle.records.specs.Writing.{plainRecord}
-use Rattle.replay.specs.Playing.{State, playable, step, swaps}
+use Rattle.playing.specs.Playing.{State, playable, step, swaps}
 
 -- at most so many calls, one after the other
 unfoldable pub runs : ℕ → List ℕ → State → State

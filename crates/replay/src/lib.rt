@@ -1,13 +1,11 @@
 // A list of calls played from bytes on the book's own operations, each answer written as bytes. docs/RECORDS.md has the layout.
-mod calls;
-
-use crate::calls::Played;
-use crate::calls::play_call;
 use book::opening::open;
 use book::opening::ring_size;
 use book::record::Book;
 use image::layout::get_u8;
 use image::layout::get_u16;
+use playing::Played;
+use playing::play_call;
 use records::reading::answer_size;
 use records::reading::call_size;
 use records::reading::goes;
@@ -22,7 +20,7 @@ ghost use lib.ListN.{length};
 ghost use Rattle.laws.specs.Base.{pick};
 ghost use lib.Seq.{sets};
 ghost use Rattle.records.specs.Reading.{callSize, answerSize};
-ghost use Rattle.replay.specs.Playing.{stateOf, playable, step, swaps};
+ghost use Rattle.playing.specs.Playing.{stateOf, playable, step, swaps};
 ghost use Rattle.replay.specs.Replay.{turn, begins, finished, lentOf, outcome, replayed};
 ghost use Rattle.replay.specs.Promise.{promised};
 

@@ -7,7 +7,7 @@ use native.Mathlib.Omega.{arith}
 use lib.ListN.{length}
 use mir.Syntax.{w64}
 use mir.Val.{Fits}
-use Rattle.replay.specs.Playing.{State, stateOf, playable}
+use Rattle.playing.specs.Playing.{State, stateOf, playable}
 use Rattle.replay.proofs.Looping.{Fit, room-by, plays, Held, start, fits-in, again, done, leaves}
 use borrow.Author.Needs.{needs}
 use Rattle.replay.proofs.play_calls.Statement.{statement}

@@ -1,7 +1,7 @@
 -- `replay::play_opening` meets its contract: the state after the opening, then all calls. Assumes nothing.
 use mathlib.Core.Path.{_≡_, ap, _∙_}
 use mathlib.Core.List.{[]}
-use Rattle.replay.specs.Playing.{State}
+use Rattle.playing.specs.Playing.{State}
 use Rattle.replay.specs.Replay.{finished, lentOf}
 use Rattle.replay.proofs.Beginning.{opening}
 use borrow.Author.Needs.{needs}

@@ -1,5 +1,5 @@
 -- `replay::play_turned` meets its contract: the call, on the rings where they lie. Assumes nothing.
-use Rattle.replay.proofs.Calling.{turned-asks, straight-asks, turned-made, straight-made}
+use Rattle.replay.proofs.Turning.{turned-asks, straight-asks, turned-made, straight-made}
 use borrow.Author.Needs.{needs}
 use Rattle.replay.proofs.play_turned.Statement.{statement}
 use Rattle.replay.proofs.play_turned.Tie as tie

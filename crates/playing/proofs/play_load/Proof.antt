@@ -1,10 +1,10 @@
--- `replay::calls::play_load` meets its contract: the part that was stored, and one law a way out. Assumes nothing.
+-- `playing::play_load` meets its contract: the part that was stored, and one law a way out. Assumes nothing.
 use mathlib.Core.Path.{sym}
 use lib.Seq.{length-take-le}
-use Rattle.replay.proofs.Restarting.{load-refused, load-accepted}
+use Rattle.playing.proofs.Restarting.{load-refused, load-accepted}
 use borrow.Author.Needs.{needs}
-use Rattle.replay.proofs.calls.play_load.Statement.{statement}
-use Rattle.replay.proofs.calls.play_load.Tie as tie
+use Rattle.playing.proofs.play_load.Statement.{statement}
+use Rattle.playing.proofs.play_load.Tie as tie
 
 slice-aggregate-load : tie.Need-slice-aggregate-load
 slice-aggregate-load c = let s = c .before .before .before in sym (length-take-le (s .args .n) (s .args .image .now) (s .pre .0))

@@ -27,7 +27,7 @@ use Rattle.image.specs.Storing as Storing
 use Rattle.image.specs.Loading as Loading
 use Rattle.image.proofs.Verdicts.{stored-ok, ok-stored}
 use Rattle.records.specs.Writing.{plainRecord, reportRecord}
-use Rattle.replay.specs.Playing.{restartVerdict, swapped, restartedBook, reloaded}
+use Rattle.playing.specs.Playing.{restartVerdict, swapped, restartedBook, reloaded}
 
 module _ (l m : List ℕ) (out : ℕ) where
   -- ---- a setting, and a report

@@ -1,4 +1,4 @@
-// The calls of a replay: each reads its arguments, calls the book's own operation and writes the answer.
+// One call of a replay: it reads its arguments, calls the book's own operation and writes the answer.
 use book::record::Answer;
 use book::record::Book;
 use book::report::report;
@@ -36,7 +36,7 @@ ghost use Rattle.image.specs.Storing as Storing;
 ghost use Rattle.image.specs.Loading as Loading;
 ghost use Rattle.records.specs.Reading.{lengthsAt, entrySize, signedAt, factorsAt, tableAt, callSize, answerSize};
 ghost use Rattle.records.specs.Writing.{plainRecord, entryRecord, reportRecord};
-ghost use Rattle.replay.specs.Playing.{State, roomOf, thresholdIn, capIn, floorIn, regionIn, marketIn, step, swaps, stateOf, playable, enteredAt, enteredRecord, reload, restartVerdict, swapped, restartedBook, reloaded};
+ghost use Rattle.playing.specs.Playing.{State, roomOf, thresholdIn, capIn, floorIn, regionIn, marketIn, step, swaps, stateOf, playable, enteredAt, enteredRecord, reload, restartVerdict, swapped, restartedBook, reloaded};
 
 // The book after a call, and whether the rings have changed places.
 pub struct Played {

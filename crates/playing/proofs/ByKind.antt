@@ -10,8 +10,8 @@ use lib.ListN.{replicate}
 use Rattle.ledger.specs.Calls as Calls
 use Rattle.ledger.specs.Calls.{Call}
 use Rattle.records.specs.Reading.{kindAt, lengthsAt, entryAt, entryNumber, tableAt, answerSize}
-use Rattle.replay.specs.Playing.{State, thresholdIn, capIn, floorIn, regionIn, marketIn, threshold, limits, report, entry, restart, step}
-use Rattle.replay.specs.Promise.{Lengths, callAt}
+use Rattle.playing.specs.Playing.{State, thresholdIn, capIn, floorIn, regionIn, marketIn, threshold, limits, report, entry, restart, step}
+use Rattle.playing.specs.Fed.{Lengths, callAt}
 
 -- the five kinds, as the tests of the definitions tell them apart
 pub data Kind : ℕ → Type 0 where

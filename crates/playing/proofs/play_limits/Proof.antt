@@ -1,13 +1,13 @@
--- `replay::calls::play_limits` meets its contract. Assumes nothing.
+-- `playing::play_limits` meets its contract. Assumes nothing.
 use mathlib.Core.Path.{ap₂, _∙_}
 use mir.Syntax.{w32}
 use mir.Val.{SFits}
 use mir.Facts.{toZ-ofZ}
 use Rattle.book.specs.Setting.{setLimits}
-use Rattle.replay.proofs.Restarting.{set-told}
+use Rattle.playing.proofs.Restarting.{set-told}
 use borrow.Author.Needs.{needs}
-use Rattle.replay.proofs.calls.play_limits.Statement.{statement}
-use Rattle.replay.proofs.calls.play_limits.Tie as tie
+use Rattle.playing.proofs.play_limits.Statement.{statement}
+use Rattle.playing.proofs.play_limits.Tie as tie
 
 add-get-word : tie.Need-add-get-word
 add-get-word c = search needs

@@ -1,9 +1,9 @@
--- `replay::calls::play_restart` meets its contract: one law a way out. Assumes nothing.
+-- `playing::play_restart` meets its contract: one law a way out. Assumes nothing.
 use native.Mathlib.Omega.{arith}
-use Rattle.replay.proofs.Restarting.{restart-refused, restart-loaded, image-fits}
+use Rattle.playing.proofs.Restarting.{restart-refused, restart-loaded, image-fits}
 use borrow.Author.Needs.{needs}
-use Rattle.replay.proofs.calls.play_restart.Statement.{statement}
-use Rattle.replay.proofs.calls.play_restart.Tie as tie
+use Rattle.playing.proofs.play_restart.Statement.{statement}
+use Rattle.playing.proofs.play_restart.Tie as tie
 
 store-requires : tie.Need-store-requires
 store-requires c κs = search needs

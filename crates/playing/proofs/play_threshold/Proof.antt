@@ -1,13 +1,13 @@
--- `replay::calls::play_threshold` meets its contract. Assumes nothing.
+-- `playing::play_threshold` meets its contract. Assumes nothing.
 use mathlib.Core.Path.{ap, _∙_}
 use mir.Syntax.{w64}
 use mir.Val.{SFits, toZ}
 use mir.Facts.{toZ-ofZ}
 use Rattle.book.specs.Setting.{setThreshold}
-use Rattle.replay.proofs.Restarting.{set-told}
+use Rattle.playing.proofs.Restarting.{set-told}
 use borrow.Author.Needs.{needs}
-use Rattle.replay.proofs.calls.play_threshold.Statement.{statement}
-use Rattle.replay.proofs.calls.play_threshold.Tie as tie
+use Rattle.playing.proofs.play_threshold.Statement.{statement}
+use Rattle.playing.proofs.play_threshold.Tie as tie
 
 add-get : tie.Need-add-get
 add-get c = search needs

@@ -1,8 +1,8 @@
--- `replay::calls::play_entry` meets its contract. The contents are read, entered and answered. Assumes nothing.
-use Rattle.replay.proofs.Parts.{read-asks, table-room, table-front, enter-asks, put-asks, book-left, ring-left, table-left, answer-left}
+-- `playing::play_entry` meets its contract. The contents are read, entered and answered. Assumes nothing.
+use Rattle.playing.proofs.Parts.{read-asks, table-room, table-front, enter-asks, put-asks, book-left, ring-left, table-left, answer-left}
 use borrow.Author.Needs.{needs}
-use Rattle.replay.proofs.calls.play_entry.Statement.{statement}
-use Rattle.replay.proofs.calls.play_entry.Tie as tie
+use Rattle.playing.proofs.play_entry.Statement.{statement}
+use Rattle.playing.proofs.play_entry.Tie as tie
 
 lengths-at-requires : tie.Need-lengths-at-requires
 lengths-at-requires c κs = search needs

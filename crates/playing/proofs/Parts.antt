@@ -16,7 +16,7 @@ use Rattle.entries.specs.declared.Entered.{Entered}
 use Rattle.entries.specs.Entering.{Outcome, outcome, entered}
 use Rattle.records.specs.declared.reading.Lengths.{Lengths}
 use Rattle.records.specs.Reading.{lengthsAt, entrySize, bytesAt, pricesFrom, marksFrom, flowsFrom, factorsFrom, scheduleFrom, tableFrom, pricesAt, marksAt, flowsAt, factorsAt, scheduleAt, tableAt, signedAt, entryAt, entryNumber}
-use Rattle.replay.specs.Playing.{enteredAt, enteredRecord}
+use Rattle.playing.specs.Playing.{enteredAt, enteredRecord}
 
 -- ---- three lists that stand first in a list, one after the other
 module _ {A : Type 0} (p f s l : List A) (a b d : ℕ) (x : length p ≡ a) (y : length f ≡ b) (z : length s ≡ d) (e : take (a + b + d) l ≡ p ++ (f ++ s)) where

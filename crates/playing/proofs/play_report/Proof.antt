@@ -1,10 +1,10 @@
--- `replay::calls::play_report` meets its contract. Assumes nothing.
+-- `playing::play_report` meets its contract. Assumes nothing.
 use mathlib.Core.Path.{ap₂, _∙_}
 use Rattle.book.specs.Report.{reported}
-use Rattle.replay.proofs.Restarting.{report-told}
+use Rattle.playing.proofs.Restarting.{report-told}
 use borrow.Author.Needs.{needs}
-use Rattle.replay.proofs.calls.play_report.Statement.{statement}
-use Rattle.replay.proofs.calls.play_report.Tie as tie
+use Rattle.playing.proofs.play_report.Statement.{statement}
+use Rattle.playing.proofs.play_report.Tie as tie
 
 add-get-u32 : tie.Need-add-get-u32
 add-get-u32 c = search needs

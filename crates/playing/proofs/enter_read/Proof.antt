@@ -1,10 +1,10 @@
--- `replay::calls::enter_read` meets its contract. The parts of the record are its entry. Assumes nothing.
+-- `playing::enter_read` meets its contract. The parts of the record are its entry. Assumes nothing.
 use mathlib.Core.Path.{sym}
 use lib.Seq.{length-take-le}
-use Rattle.replay.proofs.Parts.{front-long, parts-left}
+use Rattle.playing.proofs.Parts.{front-long, parts-left}
 use borrow.Author.Needs.{needs}
-use Rattle.replay.proofs.calls.enter_read.Statement.{statement}
-use Rattle.replay.proofs.calls.enter_read.Tie as tie
+use Rattle.playing.proofs.enter_read.Statement.{statement}
+use Rattle.playing.proofs.enter_read.Tie as tie
 
 add-get-u32 : tie.Need-add-get-u32
 add-get-u32 c = search needs

@@ -1,11 +1,11 @@
--- `replay::calls::play_call` meets its contract: each kind of call by its own function. Assumes nothing.
+-- `playing::play_call` meets its contract: each kind of call by its own function. Assumes nothing.
 use mathlib.Core.Path.{_≡_, sym, _∙_}
 use Prim.Native.Nat.{_+_}
 use Rattle.laws.specs.Bytes.{numberAt}
-use Rattle.replay.proofs.Calling.{head-asks, entry-asks, threshold-asks, limits-asks, report-asks, restart-asks, entry-made, threshold-made, limits-made, report-made, restart-made}
+use Rattle.playing.proofs.Calling.{head-asks, entry-asks, threshold-asks, limits-asks, report-asks, restart-asks, entry-made, threshold-made, limits-made, report-made, restart-made}
 use borrow.Author.Needs.{needs}
-use Rattle.replay.proofs.calls.play_call.Statement.{statement}
-use Rattle.replay.proofs.calls.play_call.Tie as tie
+use Rattle.playing.proofs.play_call.Statement.{statement}
+use Rattle.playing.proofs.play_call.Tie as tie
 
 -- the kind that each test says
 entry : (c : tie.Then1) → let a = c .before .before .before .before .before .before .args in numberAt (a .calls .now) (a .at + 4) 2 ≡ 65
