@@ -1,36 +1,12 @@
 // One region, energy alone, over many calls: windows, periods, settings and a changed ring.
-use book::record::Book;
 use book::setting::set_limits;
 use book::setting::set_threshold;
-use entries::enter;
 use stage::amount;
 use stage::guide;
+use stage::one;
 use stage::opened;
 use stage::say;
 use stage::show;
-
-// One region, energy alone: an entry at a price, marked or not.
-fn one(book: Book, ring: &mut [i32], n: u32, cents: i32, mark: u8, scheduled: i32) -> Book {
-    let prices = [cents];
-    let marked = [mark];
-    let flows = [0i32];
-    let factors = [0u32];
-    let schedule = [scheduled, 0];
-    let mut table = [0i32];
-    let e = enter(
-        book,
-        ring,
-        n,
-        0,
-        &prices,
-        &marked,
-        &flows,
-        &factors,
-        &schedule,
-        &mut table,
-    );
-    e.book
-}
 
 // The guide's region: 100,000, four entries at 50,000, the sixth as given; a report after each of the last three.
 fn six(sixth: i32) {

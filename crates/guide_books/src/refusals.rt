@@ -1,36 +1,10 @@
 // Refused openings and entries, and what their books say.
-use book::record::Book;
 use stage::chain;
 use stage::guide;
+use stage::offered;
 use stage::opened;
-use stage::play;
 use stage::say;
 use stage::show;
-
-// An entry of the chain of three, with these prices, marks and factors.
-fn offered(
-    book: Book,
-    ring: &mut [i32],
-    n: u32,
-    prices: &[i32],
-    marked: &[u8],
-    factors: &[u32],
-) -> Book {
-    let flows = [0i32; 3];
-    let schedule = [0i32; 6];
-    let mut table = [0i32; 3];
-    play(
-        book,
-        ring,
-        n,
-        prices,
-        marked,
-        &flows,
-        factors,
-        &schedule,
-        &mut table,
-    )
-}
 
 // Openings that are refused, and what their books say.
 fn refused_openings() {

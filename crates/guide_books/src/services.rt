@@ -1,29 +1,9 @@
 // One region with services: what an administered one does to the others, and a suspended region.
-use book::record::Book;
 use stage::guide;
 use stage::opened;
 use stage::play;
 use stage::say;
-
-// An entry of one region with two services.
-fn with_services(book: Book, ring: &mut [i32], n: u32, prices: &[i32]) -> Book {
-    let none = [0u8];
-    let flows = [0i32];
-    let factors = [0u32];
-    let schedule = [0i32; 6];
-    let mut table = [0i32; 3];
-    play(
-        book,
-        ring,
-        n,
-        prices,
-        &none,
-        &flows,
-        &factors,
-        &schedule,
-        &mut table,
-    )
-}
+use stage::with_services;
 
 // A service administered caps services alone; energy administered holds all.
 fn services() {

@@ -1,4 +1,4 @@
-// Plays calls on a book and prints what they answer: what the programs guide and guide_books share.
+// Plays calls on a book and prints what they answer: what the programs guide and guide_books are built of.
 use book::opening::open;
 use book::record::Answer;
 use book::record::Book;
@@ -187,4 +187,72 @@ pub fn show(book: Book, region: u32, market: u32) -> Book {
     }
     say(b"\n");
     r.book
+}
+
+// One region, energy alone: an entry at a price, marked or not.
+pub fn one(book: Book, ring: &mut [i32], n: u32, cents: i32, mark: u8, scheduled: i32) -> Book {
+    let prices = [cents];
+    let marked = [mark];
+    let flows = [0i32];
+    let factors = [0u32];
+    let schedule = [scheduled, 0];
+    let mut table = [0i32];
+    let e = enter(
+        book,
+        ring,
+        n,
+        0,
+        &prices,
+        &marked,
+        &flows,
+        &factors,
+        &schedule,
+        &mut table,
+    );
+    e.book
+}
+
+// An entry of one region with two services.
+pub fn with_services(book: Book, ring: &mut [i32], n: u32, prices: &[i32]) -> Book {
+    let none = [0u8];
+    let flows = [0i32];
+    let factors = [0u32];
+    let schedule = [0i32; 6];
+    let mut table = [0i32; 3];
+    play(
+        book,
+        ring,
+        n,
+        prices,
+        &none,
+        &flows,
+        &factors,
+        &schedule,
+        &mut table,
+    )
+}
+
+// An entry of the chain of three, with these prices, marks and factors.
+pub fn offered(
+    book: Book,
+    ring: &mut [i32],
+    n: u32,
+    prices: &[i32],
+    marked: &[u8],
+    factors: &[u32],
+) -> Book {
+    let flows = [0i32; 3];
+    let schedule = [0i32; 6];
+    let mut table = [0i32; 3];
+    play(
+        book,
+        ring,
+        n,
+        prices,
+        marked,
+        &flows,
+        factors,
+        &schedule,
+        &mut table,
+    )
 }
