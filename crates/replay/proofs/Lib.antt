@@ -5,3 +5,4 @@ pub mod Refusing
 pub mod Promises
 pub mod Turning
 pub mod Beginning
+pub mod Within
