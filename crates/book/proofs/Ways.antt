@@ -6,6 +6,7 @@ use Prim.Native.Nat.{ℕ}
 use lib.IntN.{ℤ, pos}
 use lib.ListN.{length, replicate}
 use lib.Dec.{leb, eqb}
+use Rattle.laws.proofs.Tests.{and-assoc}
 use Rattle.pricing.specs.Verdict.{accepted, refused}
 use Rattle.pricing.specs.Holding.{limitsOk}
 use Rattle.book.specs.declared.record.Book.{Book}
@@ -18,10 +19,6 @@ use Rattle.book.specs.Record.{closed, ringSize, verdictOf, verdict, isAc
 use Rattle.book.specs.Opening.{openVerdict, fresh, outcome, opened}
 use Rattle.book.specs.Setting.{Outcome, thresholdVerdict, limitsVerdict, withSettings, setThreshold, setLimits}
 use Rattle.book.specs.Validity.{shapeOk, parentsOk, thresholdOk, regionsOk, placesOk, valid}
-
-and-assoc : (x y z : Bool) → (x && (y && z)) ≡ ((x && y) && z)
-and-assoc true y z = refl
-and-assoc false y z = refl
 
 -- rule 10 of its parts, as the code groups them
 pub valid-by : (b : Book) (s p t l c k : Bool)

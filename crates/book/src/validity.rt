@@ -1,9 +1,13 @@
 // Rule 10: whether a book is one that a call may take. The loops read numbers and lent arrays, never the whole book.
 use crate::record::Book;
 ghost use mathlib.Core.Path.{_≡_};
-ghost use mathlib.Core.Bool.{Bool};
-ghost use Prim.Native.Nat.{_<_};
-ghost use Rattle.book.specs.Validity.{parentOk, parentsOk, shapeOk, thresholdOk, regionOk, placeOk, usedPlace, regionsOk, placesOk, valid};
+ghost use mathlib.Core.Bool.{_&&_};
+ghost use Prim.Native.Nat.{_+_, _≤_};
+ghost use lib.Dec.{leb};
+ghost use lib.IntN.{pos};
+ghost use lib.ListN.{getD};
+ghost use Rattle.laws.specs.Lists.{allBelow};
+ghost use Rattle.book.specs.Validity.{parentOk, parentsOk, shapeOk, thresholdOk, regionOk, placeOk, regionsOk, placesOk, valid};
 
 fn parent_ok(regions: usize, r: usize, parent: usize) -> bool
     ensures { λ x. ⌜ x ≡ parentOk regions r parent ⌝ }
@@ -45,25 +49,22 @@ pub fn threshold_ok(threshold: i64) -> bool
 fn region_ok(used: bool, window: u16, entries: u32, count: u16, next: u16) -> bool
     ensures { λ x. ⌜ x ≡ regionOk used window entries count next ⌝ }
 {
-    (used
-        & ((count <= window)
+    if used {
+        return (count <= window)
             & (count as u32 <= entries)
             & (next < window)
-            & ((count == window) | (next == count))))
-        | (!used & ((count == 0) & (next == 0)))
+            & ((count == window) | (next == count));
+    }
+    (count == 0) & (next == 0)
 }
 
 fn place_ok(used: bool, sum: i64, mark: u8) -> bool
     ensures { λ x. ⌜ x ≡ placeOk used sum mark ⌝ }
 {
-    (used & ((-20160000000 <= sum) & (sum <= 20160000000) & (mark <= 1)))
-        | (!used & ((0 <= sum) & (sum <= 0) & (mark == 0)))
-}
-
-fn used_place(regions: usize, services: usize, k: usize) -> bool
-    ensures { λ x. ⌜ x ≡ usedPlace regions services k ⌝ }
-{
-    (k / 11 < regions) & (k % 11 <= services)
+    if used {
+        return (-20160000000 <= sum) & (sum <= 20160000000) & (mark <= 1);
+    }
+    (0 <= sum) & (sum <= 0) & (mark == 0)
 }
 
 fn regions_ok<'a>(
@@ -84,14 +85,34 @@ fn regions_ok<'a>(
     ok
 }
 
+// The eleven places of a region, which start at 11 × region.
+fn row_ok<'a>(
+    used: bool,
+    services: usize,
+    sums: &'a [i64; 88],
+    marks: &'a [u8; 88],
+    from: usize,
+) -> bool
+    requires { ⌜ from + 11 ≤ 88 ⌝ }
+    ensures { λ x. ⌜ x ≡ allBelow 11 (λ m. placeOk (used && leb m services) (getD (now (sums .entry)) (from + m) (pos 0)) (getD (now (marks .entry)) (from + m) 0)) ⌝ }
+{
+    let mut ok = true;
+    let mut m: usize = 0;
+    while m < 11 {
+        ok = ok & place_ok(used & (m <= services), sums[from + m], marks[from + m]);
+        m += 1;
+    }
+    ok
+}
+
 fn places_ok<'a>(regions: usize, services: usize, sums: &'a [i64; 88], marks: &'a [u8; 88]) -> bool
     ensures { λ x. ⌜ x ≡ placesOk regions services (now (sums .entry)) (now (marks .entry)) ⌝ }
 {
     let mut ok = true;
-    let mut k: usize = 0;
-    while k < 88 {
-        ok = ok & place_ok(used_place(regions, services, k), sums[k], marks[k]);
-        k += 1;
+    let mut r: usize = 0;
+    while r < 8 {
+        ok = ok & row_ok(r < regions, services, sums, marks, 11 * r);
+        r += 1;
     }
     ok
 }

@@ -12,7 +12,7 @@ use borrow.Author.Tests.{lt-ltb, le-ltb}
 use lib.ListN.{length, getD, set, drop, replicate, length-append, length-drop, drop-of-length-le, length-set}
 use lib.Seq.{drop-cons, drop-append-le, drop-drop, set-at, append-snoc, getD-set-same, getD-set-other, sets}
 use Rattle.laws.specs.Base.{pick}
-use Rattle.laws.proofs.Tests.{and-left, and-right, or-left, or-right, true-is, lt-or-ge}
+use Rattle.laws.proofs.Tests.{and-left, and-right, and-assoc, or-left, or-right, true-is, lt-or-ge}
 use Rattle.laws.specs.Lists.{run, tabulate, puts, allBelow, anyBelow, countBelow, firstOf, lastN}
 
 -- ---- tests of all, of some and of how many numbers below a bound
@@ -54,6 +54,18 @@ pub countBelow-split : (a b : ℕ) (t : ℕ → Bool) → countBelow (a + b) t �
 unfolding countBelow
 countBelow-split a zero t = let e : a + 0 ≡ a = omega arith in rw e (omega arith)
 countBelow-split a (suc b) t = let e : a + suc b ≡ suc (a + b) = omega arith in rw (e, countBelow-split a b t) (omega arith)
+
+-- the same of a test of all
+pub allBelow-split : (a b : ℕ) (t : ℕ → Bool) → allBelow (a + b) t ≡ (allBelow a t && allBelow b (λ k. t (a + k)))
+unfolding allBelow
+allBelow-split a zero t = let e : a + 0 ≡ a = omega arith in rw e (and-true (allBelow a t))
+  where
+    and-true : (x : Bool) → x ≡ (x && true)
+    and-true true = refl
+    and-true false = refl
+allBelow-split a (suc b) t =
+    let e : a + suc b ≡ suc (a + b) = omega arith in
+    rw (e, allBelow-split a b t) (sym (and-assoc (allBelow a t) (allBelow b (λ k. t (a + k))) (t (a + b))))
 
 pub countBelow-same : (n : ℕ) (t u : ℕ → Bool) → ((k : ℕ) → k < n → t k ≡ u k) → countBelow n t ≡ countBelow n u
 unfolding countBelow

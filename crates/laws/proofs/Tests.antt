@@ -1,6 +1,6 @@
 -- Tests and what they decide. Assumes nothing.
 use mathlib.Core.Path.{_≡_, refl, sym, subst}
-use mathlib.Core.Bool.{Bool, true, false, _&&_, _||_}
+use mathlib.Core.Bool.{Bool, true, false, not, _&&_, _||_}
 use mathlib.Core.Logic.{_⊎_, inl, inr}
 use Prim.Native.Nat.{ℕ, _<_, _≤_}
 use lib.Dec.{T, ltb}
@@ -30,6 +30,20 @@ or-left false b e = absurd (true-is e)
 pub or-right : (a b : Bool) → b ≡ true → (a || b) ≡ true
 or-right true b e = refl
 or-right false b e = e
+
+pub and-assoc : (a b c : Bool) → (a && (b && c)) ≡ ((a && b) && c)
+and-assoc true b c = refl
+and-assoc false b c = refl
+
+-- one of two by a test: the first where it holds, the second where it fails
+pub either-first : (t a b : Bool) → t ≡ true → a ≡ (t && a || not t && b)
+either-first true true b e = refl
+either-first true false b e = refl
+either-first false a b e = absurd (true-is e)
+
+pub either-second : (t a b : Bool) → t ≡ false → b ≡ (t && a || not t && b)
+either-second true a b e = absurd (true-is (sym e))
+either-second false a b e = refl
 
 pub by-test {ℓ} : {X : Type ℓ} (t : Bool) → (t ≡ true → X) → (t ≡ false → X) → X
 by-test true f g = f refl

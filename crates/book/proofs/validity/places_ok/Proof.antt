@@ -1,58 +1,62 @@
--- `book::validity::places_ok` meets its contract. The loop's invariant: `ok` is the test of the places passed. Assumes nothing.
-use mathlib.Core.Path.{_≡_}
-use Prim.Native.Nat.{_≤_, _-_}
+-- `book::validity::places_ok` meets its contract. The loop's invariant: `ok` is the test of the regions passed, eleven places each. Assumes nothing.
+use mathlib.Core.Path.{_≡_, refl, sym}
+use mathlib.Core.Bool.{Bool, _&&_}
+use mathlib.Core.List.{List}
+use Prim.Native.Nat.{ℕ, _+_, _*_, _/_, _%_, _≤_, _-_}
 use native.Mathlib.Omega.{arith}
-use borrow.Author.Needs.{needs}
-use mir.Syntax.{w64}
-use mir.Val.{SFits}
-use mir.Facts.{toZ-ofZ}
+use lib.Dec.{leb, ltb}
+use lib.IntN.{ℤ, pos}
 use lib.ListN.{getD}
 use Rattle.laws.specs.Lists.{allBelow}
-use Rattle.laws.proofs.Lists.{allBelow-none, allBelow-step}
+use Rattle.laws.proofs.Lists.{allBelow-none, allBelow-split, all-same}
 use Rattle.book.specs.Validity.{placeOk, usedPlace}
-use lib.IntN.{pos}
 use Rattle.book.proofs.validity.places_ok.Statement.{statement}
 use Rattle.book.proofs.validity.places_ok.Tie as tie
 
+abbrev tested : ℕ → ℕ → List ℤ → List ℕ → ℕ → Bool
+tested regions services sums marks k = placeOk (usedPlace regions services k) (getD sums k (pos 0)) (getD marks k 0)
+
 abbrev Inv-loop : tie.InvT-loop
-Inv-loop regions services sums marks ok₀ k₀ ok k = (k ≤ 88) × (ok ≡ allBelow k (λ q. placeOk (usedPlace regions services q) (getD sums q (pos 0)) (getD marks q 0)))
+Inv-loop regions services sums marks ok₀ r₀ ok r = (r ≤ 8) × (ok ≡ allBelow (11 * r) (tested regions services sums marks))
 
 abbrev μ-loop : tie.MeasureT-loop
-μ-loop regions services sums marks ok₀ k₀ ok k = 88 - k
+μ-loop regions services sums marks ok₀ r₀ ok r = 8 - r
+
+-- one region more
+row-step : (regions services : ℕ) (sums : List ℤ) (marks : List ℕ) (r : ℕ) (ok x : Bool)
+    → ok ≡ allBelow (11 * r) (tested regions services sums marks)
+    → x ≡ allBelow 11 (λ m. placeOk (ltb r regions && leb m services) (getD sums (11 * r + m) (pos 0)) (getD marks (11 * r + m) 0))
+    → (ok && x) ≡ allBelow (11 * (r + 1)) (tested regions services sums marks)
+row-step regions services sums marks r ok x h e =
+    let n : 11 * (r + 1) ≡ 11 * r + 11 = omega arith in
+    let row = all-same 11 (λ m. placeOk (ltb r regions && leb m services) (getD sums (11 * r + m) (pos 0)) (getD marks (11 * r + m) 0))
+    (λ m. tested regions services sums marks (11 * r + m))
+    (λ m l. let d : (11 * r + m) / 11 ≡ r = omega arith in let q : (11 * r + m) % 11 ≡ m = omega arith in rw (d, q) refl) in
+    rw (n, h, e, row) (sym (allBelow-split (11 * r) 11 (tested regions services sums marks)))
 
 loop-holds : tie.Need-loop-holds Inv-loop μ-loop
 loop-holds c = (omega arith, allBelow-none _)
 
-used-place-requires : tie.Need-used-place-requires Inv-loop μ-loop
-used-place-requires c κs = search needs
+mul-row-ok : tie.Need-mul-row-ok Inv-loop μ-loop
+mul-row-ok c = omega arith
 
-mul-place-ok : tie.Need-mul-place-ok Inv-loop μ-loop
-mul-place-ok c = omega arith
+row-ok-requires : tie.Need-row-ok-requires Inv-loop μ-loop
+row-ok-requires c κs = omega arith
 
-element-copy-out-place-ok : tie.Need-element-copy-out-place-ok Inv-loop μ-loop
-element-copy-out-place-ok c = omega arith
-
-element-copy-out-place-ok-2 : tie.Need-element-copy-out-place-ok-2 Inv-loop μ-loop
-element-copy-out-place-ok-2 c = omega arith
-
-place-ok-requires : tie.Need-place-ok-requires Inv-loop μ-loop
-place-ok-requires c κs = search needs
-
-add-k : tie.Need-add-k Inv-loop μ-loop
-add-k c = omega arith
+add-r : tie.Need-add-r Inv-loop μ-loop
+add-r c = omega arith
 
 loop-less : tie.Need-loop-less Inv-loop μ-loop
 loop-less c = omega arith
 
 loop-again : tie.Need-loop-again Inv-loop μ-loop
 loop-again c =
-    let a = c .before .before .before .before .before .before .args in
-    let l = c .before .before .before .before .before .loop in
-    let f : SFits w64 (getD (a .sums .now) (l .k) (pos 0)) = search needs in
-    (omega arith, allBelow-step _ _ (l .inv .1) (rw (toZ-ofZ f, c .before .before .before .used-place .ensures) at (c .place-ok .ensures)))
+    let a = c .before .before .before .args in
+    let l = c .before .before .loop in
+    (omega arith, row-step (a .regions) (a .services) (a .sums .now) (a .marks .now) (l .r) (l .ok) (c .row-ok .result) (l .inv .1) (c .row-ok .ensures))
 
 returns : tie.Need-returns Inv-loop μ-loop
-returns c = let e : c .before .loop .k ≡ 88 = omega arith in cc
+returns c = let e : c .before .loop .r ≡ 8 = omega arith in rw e at (c .before .loop .inv .1)
 
 pub places-ok-spec : {M : Type 1} → statement M
 places-ok-spec =
@@ -61,12 +65,9 @@ places-ok-spec =
     Inv-loop
     μ-loop
     loop-holds
-    used-place-requires
-    mul-place-ok
-    element-copy-out-place-ok
-    element-copy-out-place-ok-2
-    place-ok-requires
-    add-k
+    mul-row-ok
+    row-ok-requires
+    add-r
     loop-less
     loop-again
     returns)
