@@ -3,14 +3,12 @@ use mathlib.Core.Path.{_≡_, refl, sym}
 use mathlib.Core.List.{List, _++_}
 use Prim.Native.Nat.{ℕ, _+_, _*_}
 use native.Mathlib.Omega.{arith}
-use lib.IntN.{ℤ, pos}
-use lib.ListN.{length, getD, length-append}
-use lib.Seq.{sets, ext-getD}
+use lib.IntN.{ℤ}
+use lib.ListN.{length, length-append}
+use lib.Seq.{sets}
 use mir.Syntax.{w64}
 use mir.Val.{ofZ}
-use Rattle.laws.specs.Lists.{tabulate}
 use Rattle.laws.specs.Bytes.{le}
-use Rattle.laws.proofs.Lists.{length-run, getD-tabulate}
 use Rattle.laws.proofs.Bytes.{sets-append, length-le}
 use Rattle.pricing.specs.Verdict.{Verdict}
 use Rattle.book.specs.Report.{Numbers}
@@ -71,9 +69,3 @@ length-values n = simp (length-append, length-le)
 
 pub length-report : (n : Numbers) → length (reportRecord n) ≡ 34
 length-report n = simp (length-append, length-head, length-values)
-
--- ---- a list is its elements
-pub tabulate-own : (l : List ℤ) → tabulate (length l) (λ k. getD l k (pos 0)) ≡ l
-tabulate-own l =
-    let e = length-run (λ k. getD l k (pos 0)) (length l) 0 in
-    ext-getD (pos 0) (tabulate (length l) (λ k. getD l k (pos 0))) l e (λ i h. getD-tabulate (λ k. getD l k (pos 0)) (length l) i (pos 0) (omega (arith, e)))

@@ -141,7 +141,7 @@ callSize c at =
     (pick (ltb (length c - at) (sizeAt c at)) 0
     (pick (eqb (sizeAt c at) (sizeFor c at (kindAt c at))) (sizeAt c at) 0))
 
--- ---- the room that a replay is lent: how long the book's ring, the answers' buffer and the slices for an entry's contents are
+-- ---- the room that a replay is lent: how long the book's ring and the slices for an entry's contents are
 pub record Room : Type 0 where
   pub ring : ℕ
   pub numbers : ℕ

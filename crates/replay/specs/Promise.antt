@@ -56,17 +56,17 @@ lengthsOf c z = record {
 abbrev pub callsIn : List ℕ → Sizes → List Call
 callsIn c z = callsFrom (length c) (lengthsOf c z) c openingSize (z .answers - 14)
 
--- ---- the answers as bytes
-abbrev pub settingKind : Call → ℕ
-settingKind (entry ring number e table) = 65
-settingKind (threshold x) = 66
-settingKind (limits c f) = 67
-settingKind (report region market) = 68
-settingKind (restart buffer ring) = 69
+-- ---- the answers as bytes: a call's kind, and its answer's record
+abbrev pub kindOf : Call → ℕ
+kindOf (entry ring number e table) = 65
+kindOf (threshold x) = 66
+kindOf (limits c f) = 67
+kindOf (report region market) = 68
+kindOf (restart buffer ring) = 69
 
 abbrev pub recordOf : Call → Answer → List ℕ
 recordOf c (entered v count table) = entryRecord v count table
-recordOf c (set v) = plainRecord (settingKind c) v
+recordOf c (set v) = plainRecord (kindOf c) v
 recordOf c (reported numbers) = reportRecord numbers
 recordOf c (restarted v) = plainRecord 69 v
 

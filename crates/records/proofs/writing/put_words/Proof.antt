@@ -12,7 +12,7 @@ use mir.Facts.{toZ-ofZ}
 use Rattle.laws.specs.Lists.{run, tabulate}
 use Rattle.image.specs.Layout.{words}
 use Rattle.image.proofs.Walks.{words-none, words-step, words-done}
-use Rattle.records.proofs.Written.{tabulate-own}
+use Rattle.image.proofs.Lists.{tabulate-list}
 use borrow.Author.Needs.{needs}
 use Rattle.records.proofs.writing.put_words.Statement.{statement}
 use Rattle.records.proofs.writing.put_words.Tie as tie
@@ -64,7 +64,7 @@ same-length c = omega arith
 returns : tie.Need-returns Inv-loop μ-loop
 returns c =
     let a = c .before .before .before .args in
-    words-done _ _ _ _ _ _ (omega arith) (c .before .loop .inv .2) ∙ ap (λ (l : List ℤ). sets (a .answers .now) (a .at) (words l)) (tabulate-own (a .numbers .now))
+    words-done _ _ _ _ _ _ (omega arith) (c .before .loop .inv .2) ∙ ap (λ (l : List ℤ). sets (a .answers .now) (a .at) (words l)) (tabulate-list (pos 0) (a .numbers .now) (length (a .numbers .now)) refl)
 
 pub put-words-spec : {M : Type 1} → statement M
 put-words-spec =
