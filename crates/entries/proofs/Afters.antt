@@ -3,7 +3,10 @@ use mathlib.Core.Path.{_≡_, _∙_}
 use mathlib.Core.Bool.{Bool, true, false}
 use mathlib.Core.List.{List}
 use mathlib.Core.Logic.{_⊎_, ⊎-elim}
-use Prim.Native.Nat.{ℕ, _+_, _/_, _%_, _<_, _≤_}
+use Prim.Native.Nat.{ℕ, _+_, _*_, _/_, _%_, _<_, _≤_}
+use native.Mathlib.Omega.{arith}
+use borrow.Author.Tests.{lt-ltb}
+use lib.Dec.{ltb}
 use lib.IntN.{ℤ, pos}
 use lib.ListN.{getD}
 use lib.Signed.{leZ, ltZ}
@@ -35,11 +38,11 @@ module _ (b : Book) (v : Valid b) (ring : List ℤ) (o : Offer) (last : Bool) wh
       let s : getD (sumsAfter b ring o) k (pos 0) ≡ pos 0 = getD-tabulate _ 88 k (pos 0) h ∙ rw (unused (b .regions) (b .services) k z) (v .no-sum k h z) in
       rw (s, v .no-mark k h z) (no-mark (b .threshold) last (v .threshold))
 
-  pub marks-are : marksBy (b .threshold) last (sumsAfter b ring o) (b .marks) ≡ marksAfter (b .regions) (b .services) (b .threshold) last (sumsAfter b ring o) (b .marks)
+  pub marks-are : marksBy (11 * b .regions) (b .threshold) last (sumsAfter b ring o) (b .marks) ≡ marksAfter (b .regions) (b .services) (b .threshold) last (sumsAfter b ring o) (b .marks)
   marks-are =
       tabulate-same 88 _ _ (λ k h. ⊎-elim
-      (λ l. rw (used (b .regions) (b .services) k (l .0) (l .1)))
-      (λ z. rw (unused (b .regions) (b .services) k z) (free k h z))
+      (λ l. rw (used (b .regions) (b .services) k (l .0) (l .1), lt-ltb k (11 * b .regions) (omega (arith, l .0))))
+      (λ z. rw (unused (b .regions) (b .services) k z, free k h z) (same-pick (ltb k (11 * b .regions)) (getD (b .marks) k 0)))
       (used-or (b .regions) (b .services) k))
 
 pub after-is : (b : Book) (v : Valid b) (ring prices : List ℤ) (marked : List ℕ) (last : Bool) (position : ℕ) (counts nexts : List ℕ) (sums : List ℤ) (marks : List ℕ)
@@ -48,7 +51,7 @@ pub after-is : (b : Book) (v : Valid b) (ring prices : List ℤ) (marked : List 
     → counts ≡ countsBy (b .regions) (b .window) marked (b .counts)
     → nexts ≡ nextsBy (b .regions) (b .window) marked (b .nexts)
     → sums ≡ sumsAfter b ring (offered prices marked)
-    → marks ≡ marksBy (b .threshold) last sums (b .marks)
+    → marks ≡ marksBy (11 * b .regions) (b .threshold) last sums (b .marks)
     → _≡_ {A = Book} (record {
       regions = b .regions;
       services = b .services;

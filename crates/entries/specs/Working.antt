@@ -105,9 +105,10 @@ nextsBy regions window marked nexts =
     tabulate 8 (λ r. pick (ltb r regions && eqb (getD marked r 0) 0) (following window (getD nexts r 0)) (getD nexts r 0))
 
 -- ---- step 6
--- at all 88 places: an unused one has sum and mark 0, and a threshold is above 0, so that its mark stays
-abbrev pub marksBy : ℤ → Bool → List ℤ → List ℕ → List ℕ
-marksBy threshold last sums marks = tabulate 88 (λ k. markAfter threshold last (getD sums k (pos 0)) (getD marks k 0))
+-- at the first n places, those of the book's regions: an unused one among them has sum and mark 0, and a threshold is above 0, so
+-- that its mark stays
+abbrev pub marksBy : ℕ → ℤ → Bool → List ℤ → List ℕ → List ℕ
+marksBy n threshold last sums marks = tabulate 88 (λ k. pick (ltb k n) (markAfter threshold last (getD sums k (pos 0)) (getD marks k 0)) (getD marks k 0))
 
 -- ---- the call: what an accepted entry leaves
 abbrev pub acceptance : Book → List ℤ → Entry → Outcome

@@ -64,7 +64,7 @@ fn book_after(book: Book, ring: &mut [i32], prices: &[i32], marked: &[u8]) -> Bo
     let sums = take(book, ring, prices, marked);
     let counts_then = counts_after(regions, book.window, marked, counts);
     let nexts_then = nexts_after(regions, book.window, marked, nexts);
-    let marks_then = marks_after(book.threshold, last, &sums, marks);
+    let marks_then = marks_after(11 * regions, book.threshold, last, &sums, marks);
     let mut after = book;
     after.entries = book.entries + 1;
     after.position = position_after(last, book.position);

@@ -1,7 +1,7 @@
 // Step 6: the period marks, and the position of the next entry.
 ghost use mathlib.Core.Path.{_≡_};
 ghost use mathlib.Core.Bool.{Bool};
-ghost use Prim.Native.Nat.{_+_, _<_};
+ghost use Prim.Native.Nat.{_+_, _<_, _≤_};
 ghost use Rattle.laws.specs.Base.{pick};
 ghost use Rattle.entries.specs.Periods.{lastOfDay, markAfter};
 ghost use Rattle.entries.specs.Working.{marksBy};
@@ -30,13 +30,20 @@ fn mark_after(threshold: i64, last: bool, sum: i64, mark: u8) -> u8
     if last { 0 } else { mark }
 }
 
-// The marks at all 88 places. An unused place has sum and mark 0, and its mark stays.
-pub fn marks_after(threshold: i64, last: bool, sums: &[i64; 88], marks: [u8; 88]) -> [u8; 88]
-    ensures { λ r. ⌜ r ≡ marksBy threshold last (now (sums .entry)) marks ⌝ }
+// The marks, those at the first `n` places anew. An unused place has sum and mark 0, and its mark stays.
+pub fn marks_after(
+    n: usize,
+    threshold: i64,
+    last: bool,
+    sums: &[i64; 88],
+    marks: [u8; 88],
+) -> [u8; 88]
+    requires { ⌜ n ≤ 88 ⌝ }
+    ensures { λ r. ⌜ r ≡ marksBy n threshold last (now (sums .entry)) marks ⌝ }
 {
     let mut after = marks;
     let mut k: usize = 0;
-    while k < 88 {
+    while k < n {
         after[k] = mark_after(threshold, last, sums[k], marks[k]);
         k += 1;
     }

@@ -15,5 +15,6 @@ pub mod Sameness
 pub mod Numbers
 pub mod RoundTrips
 pub mod Walks
+pub mod Runs
 pub mod Rows
 pub mod Ways

@@ -1,31 +1,19 @@
 -- Prices and their bytes, four each. Assumes nothing.
 use mathlib.Core.Path.{_≡_, refl, sym, _∙_}
-use mathlib.Core.Bool.{Bool, true, false}
 use mathlib.Core.List.{List, [], _∷_, _++_, append-assoc}
-use Prim.Native.Nat.{ℕ, zero, suc, _+_, _*_, _-_, _<_, _≤_}
+use Prim.Native.Nat.{ℕ, zero, suc, _+_, _*_, _<_, _≤_}
 use native.Mathlib.Nat.{not-suc-le-zero}
 use native.Mathlib.Omega.{arith}
-use borrow.Author.Tests.{ltb-true, ltb-false}
-use lib.Dec.{ltb}
 use lib.IntN.{ℤ, pos}
 use lib.ListN.{length, getD, take, drop, length-append}
 use lib.Seq.{drop-drop, drop-at, take-at, take-add}
 use mir.Syntax.{w32}
 use mir.Val.{SFits, ofZ}
-use Rattle.laws.specs.Base.{pick}
 use Rattle.laws.specs.Lists.{run}
 use Rattle.laws.specs.Bytes.{le, numberAt}
 use Rattle.laws.proofs.Bytes.{length-le, word-back, signed-there}
-use Rattle.image.specs.Counted.{wrap}
 use Rattle.image.specs.Layout.{words}
 use Rattle.image.specs.Loading.{priceAt}
-
-pub wrap-lt : (w k : ℕ) → k < w + w → wrap w k < w
-wrap-lt w k h = by (ltb k w) refl
-  where
-    by : (t : Bool) → ltb k w ≡ t → pick t k (k - w) < w
-    by true e = omega (arith, ltb-true k w e)
-    by false e = omega (arith, ltb-false k w e)
 
 pub length-words : (zs : List ℤ) → length (words zs) ≡ 4 * length zs
 unfolding words

@@ -3,3 +3,4 @@ pub mod Layout
 pub mod Storing
 pub mod Loading
 pub mod Same
+pub mod Working

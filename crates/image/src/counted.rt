@@ -5,13 +5,16 @@ ghost use Prim.Native.Nat.{_≤_};
 ghost use lib.Dec.{ltb};
 ghost use lib.ListN.{getD};
 ghost use Rattle.laws.specs.Base.{pick};
-ghost use Rattle.image.specs.Counted.{wrap, sumFrom, howMany};
+ghost use Rattle.image.specs.Counted.{sumFrom, howMany};
+ghost use Rattle.image.specs.Working.{beforeEnd};
 
-// Place `k` round a window.
-pub fn wrapped(window: usize, k: usize) -> usize
-    ensures { λ r. ⌜ r ≡ wrap window k ⌝ }
+// How many of `count` prices of a window stand from its place `start` to its end; the others stand from its first place on.
+pub fn before_end(window: usize, start: usize, count: usize) -> usize
+    requires { ⌜ start ≤ window ⌝ }
+    ensures { λ r. ⌜ r ≡ beforeEnd window start count ⌝ }
 {
-    if k < window { k } else { k - window }
+    let room = window - start;
+    if count < room { count } else { room }
 }
 
 // Where the oldest price of a window stands.

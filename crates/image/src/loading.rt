@@ -16,12 +16,10 @@ use pricing::holding::in_range;
 ghost use mathlib.Core.Path.{_≡_};
 ghost use mathlib.Core.Bool.{true, not};
 ghost use Prim.Native.Nat.{_+_, _*_, _≤_};
-ghost use lib.Dec.{ltb};
 ghost use lib.IntN.{pos};
 ghost use lib.ListN.{length, replicate};
 ghost use lib.Seq.{sets};
-ghost use Rattle.laws.specs.Base.{pick};
-ghost use Rattle.laws.specs.Lists.{tabulate, firstOf, total};
+ghost use Rattle.laws.specs.Lists.{tabulate, allBelow, firstOf, total};
 ghost use Rattle.pricing.specs.Holding.{isEnergy, inRange};
 ghost use Rattle.book.specs.Record.{verdictOf, verdict};
 ghost use Rattle.book.specs.Validity.{valid};
@@ -33,15 +31,28 @@ pub struct Loaded {
     pub answer: Answer,
 }
 
-// Price `i` of a window's `count`, or zero.
-fn price_or_zero(bytes: &[u8], from: usize, count: usize, i: usize) -> i32
-    requires { ⌜ from + 4 * count ≤ length (now bytes) ⌝ }
-    ensures { λ r. ⌜ r ≡ pick (ltb i count) (priceAt (now (bytes .entry)) from i) (pos 0) ⌝ }
+// `count` prices from `from`, put into the ring from `base` on.
+fn load_run(bytes: &[u8], from: usize, count: usize, ring: &mut [i32], base: usize)
+    requires { ⌜ (base + count ≤ length (now ring)) × (from + 4 * count ≤ length (now bytes)) ⌝ }
+    ensures { λ _. ⌜ now (ring .exit) ≡ sets (now (ring .entry)) base (tabulate count (priceAt (now (bytes .entry)) from)) ⌝ }
 {
-    if i < count {
-        get_word(bytes, from + 4 * i)
-    } else {
-        0
+    let mut i: usize = 0;
+    while i < count {
+        let price = get_word(bytes, from + 4 * i);
+        ring[base + i] = price;
+        i += 1;
+    }
+}
+
+// Zeros at `count` places of the ring from `base` on.
+fn zero_run(ring: &mut [i32], base: usize, count: usize)
+    requires { ⌜ base + count ≤ length (now ring) ⌝ }
+    ensures { λ _. ⌜ now (ring .exit) ≡ sets (now (ring .entry)) base (tabulate count (λ _. pos 0)) ⌝ }
+{
+    let mut i: usize = 0;
+    while i < count {
+        ring[base + i] = 0;
+        i += 1;
     }
 }
 
@@ -54,15 +65,11 @@ fn load_window(
     base: usize,
     window: usize,
 )
-    requires { ⌜ (base + window ≤ length (now ring)) × (from + 4 * count ≤ length (now bytes)) ⌝ }
+    requires { ⌜ (count ≤ window) × (base + window ≤ length (now ring)) × (from + 4 * count ≤ length (now bytes)) ⌝ }
     ensures { λ _. ⌜ now (ring .exit) ≡ sets (now (ring .entry)) base (loadedWindow (now (bytes .entry)) window count from) ⌝ }
 {
-    let mut i: usize = 0;
-    while i < window {
-        let price = price_or_zero(bytes, from, count, i);
-        ring[base + i] = price;
-        i += 1;
-    }
+    load_run(bytes, from, count, ring, base);
+    zero_run(ring, base + count, window - count);
 }
 
 fn sum_prices(bytes: &[u8], from: usize, count: usize) -> i64
@@ -103,8 +110,23 @@ fn load_prices(bytes: &[u8], book: Book, ring: &mut [i32], from: usize) -> [i64;
     sums
 }
 
+// Whether `count` prices from `from` are in their market's range.
+fn all_in(bytes: &[u8], from: usize, count: usize, market: usize) -> bool
+    requires { ⌜ from + 4 * count ≤ length (now bytes) ⌝ }
+    ensures { λ x. ⌜ x ≡ allBelow count (λ i. inRange (isEnergy market) (priceAt (now (bytes .entry)) from i)) ⌝ }
+{
+    let mut ok = true;
+    let mut i: usize = 0;
+    while i < count {
+        let price = get_word(bytes, from + 4 * i);
+        ok = ok & in_range(market, price);
+        i += 1;
+    }
+    ok
+}
+
 // The first of `count` prices from `from` that is out of range, or `count`.
-fn bad_in(bytes: &[u8], from: usize, count: usize, market: usize) -> usize
+fn search_bad(bytes: &[u8], from: usize, count: usize, market: usize) -> usize
     requires { ⌜ from + 4 * count ≤ length (now bytes) ⌝ }
     ensures { λ x. ⌜ x ≡ firstOf count (λ i. not (inRange (isEnergy market) (priceAt (now (bytes .entry)) from i))) ⌝ }
 {
@@ -117,6 +139,17 @@ fn bad_in(bytes: &[u8], from: usize, count: usize, market: usize) -> usize
         i += 1;
     }
     i
+}
+
+// The same. Prices are searched one by one only where they are not all in range: the test of all is quicker.
+fn bad_in(bytes: &[u8], from: usize, count: usize, market: usize) -> usize
+    requires { ⌜ from + 4 * count ≤ length (now bytes) ⌝ }
+    ensures { λ x. ⌜ x ≡ firstOf count (λ i. not (inRange (isEnergy market) (priceAt (now (bytes .entry)) from i))) ⌝ }
+{
+    if all_in(bytes, from, count, market) {
+        return count;
+    }
+    search_bad(bytes, from, count, market)
 }
 
 // The first price out of range of an image whose prices start at `from`, or how many there are.

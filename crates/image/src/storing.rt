@@ -1,6 +1,6 @@
 // Storing a book as an image.
+use crate::counted::before_end;
 use crate::counted::oldest;
-use crate::counted::wrapped;
 use crate::layout::image_length;
 use crate::layout::put_head;
 use book::opening::ring_size;
@@ -13,14 +13,18 @@ use pricing::holding::in_range;
 ghost use mathlib.Core.Path.{_≡_};
 ghost use mathlib.Core.Bool.{true};
 ghost use Prim.Native.Nat.{_+_, _*_, _≤_, _<_};
-ghost use lib.ListN.{length};
+ghost use lib.IntN.{pos, natAbs};
+ghost use lib.ListN.{length, getD};
 ghost use lib.Seq.{sets};
+ghost use Rattle.laws.specs.Lists.{allBelow, total};
+ghost use Rattle.pricing.specs.Holding.{isEnergy, inRange};
 ghost use Rattle.book.specs.Record.{verdict};
 ghost use Rattle.book.specs.Validity.{valid};
 ghost use Rattle.image.specs.Counted.{windowOf, counted, howMany};
 ghost use Rattle.image.specs.Layout.{words};
 ghost use Rattle.image.specs.Loading.{ringOf};
 ghost use Rattle.image.specs.Storing.{windowOk, pricesOk, storeVerdict, outcome, stored};
+ghost use Rattle.image.specs.Working.{placesOf};
 
 // The image's length, or the first refusal.
 pub enum Image {
@@ -33,7 +37,20 @@ pub struct Stored {
     pub image: Image,
 }
 
-// `count` prices of the window at `base`, the oldest at its place `start`, put into `buffer` from `at`.
+// `count` prices from place `from` of the ring on, put into `buffer` from `at`.
+fn put_run(ring: &[i32], from: usize, count: usize, buffer: &mut [u8], at: usize)
+    requires { ⌜ (from + count ≤ length (now ring)) × (at + 4 * count ≤ length (now buffer)) ⌝ }
+    ensures { λ _. ⌜ now (buffer .exit) ≡ sets (now (buffer .entry)) at (words (placesOf (now (ring .entry)) from count)) ⌝ }
+{
+    let mut i: usize = 0;
+    while i < count {
+        put_word(buffer, at + 4 * i, ring[from + i]);
+        i += 1;
+    }
+}
+
+// `count` prices of the window at `base`, the oldest at its place `start`, put into `buffer` from `at`: those up to the window's
+// end, and those from its first place on.
 fn put_window(
     ring: &[i32],
     base: usize,
@@ -47,12 +64,9 @@ fn put_window(
     requires { ⌜ (base + window ≤ length (now ring)) × (at + 4 * count ≤ length (now buffer)) ⌝ }
     ensures { λ _. ⌜ now (buffer .exit) ≡ sets (now (buffer .entry)) at (words (windowOf (now (ring .entry)) base window start count)) ⌝ }
 {
-    let mut i: usize = 0;
-    while i < count {
-        let k = wrapped(window, start + i);
-        put_word(buffer, at + 4 * i, ring[base + k]);
-        i += 1;
-    }
+    let older = before_end(window, start, count);
+    put_run(ring, base + start, older, buffer, at);
+    put_run(ring, base, count - older, buffer, at + 4 * older);
 }
 
 // The counted prices, market by market, put into `buffer` from `from`.
@@ -78,6 +92,34 @@ fn put_prices(book: Book, ring: &[i32], buffer: &mut [u8], from: usize)
     }
 }
 
+// Whether `count` prices from place `from` of the ring on are in their market's range.
+fn run_ok(ring: &[i32], from: usize, count: usize, market: usize) -> bool
+    requires { ⌜ from + count ≤ length (now ring) ⌝ }
+    ensures { λ x. ⌜ x ≡ allBelow count (λ i. inRange (isEnergy market) (getD (now (ring .entry)) (from + i) (pos 0))) ⌝ }
+{
+    let mut ok = true;
+    let mut i: usize = 0;
+    while i < count {
+        ok = ok & in_range(market, ring[from + i]);
+        i += 1;
+    }
+    ok
+}
+
+// The total of `count` prices from place `from` of the ring on.
+fn run_total(ring: &[i32], from: usize, count: usize) -> i64
+    requires { ⌜ (from + count ≤ length (now ring)) × (count ≤ 2016) ⌝ }
+    ensures { λ r. ⌜ (r ≡ total (placesOf (now (ring .entry)) from count)) × (natAbs r ≤ 2147483648 * count) ⌝ }
+{
+    let mut total: i64 = 0;
+    let mut i: usize = 0;
+    while i < count {
+        total = total + ring[from + i] as i64;
+        i += 1;
+    }
+    total
+}
+
 // Whether the counted prices of a window are in range, with `sum` as their total.
 fn window_ok(
     ring: &[i32],
@@ -92,16 +134,10 @@ fn window_ok(
     requires { ⌜ base + window ≤ length (now ring) ⌝ }
     ensures { λ x. ⌜ x ≡ windowOk (now (ring .entry)) base window start count market sum ⌝ }
 {
-    let mut ok = true;
-    let mut total: i64 = 0;
-    let mut i: usize = 0;
-    while i < count {
-        let k = wrapped(window, start + i);
-        let price = ring[base + k];
-        ok = ok & in_range(market, price);
-        total = total + price as i64;
-        i += 1;
-    }
+    let older = before_end(window, start, count);
+    let newer = count - older;
+    let ok = run_ok(ring, base + start, older, market) & run_ok(ring, base, newer, market);
+    let total = run_total(ring, base + start, older) + run_total(ring, base, newer);
     ok & ((total <= sum) & (sum <= total))
 }
 

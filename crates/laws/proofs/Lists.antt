@@ -112,6 +112,13 @@ unfolding anyBelow
 any-same zero t u e = refl
 any-same (suc n) t u e = rw (any-same n t u (λ k h. e k (omega arith)), e n (omega arith))
 
+-- a test that is one below m and another after
+pub allBelow-parts : (m n : ℕ) (t u v : ℕ → Bool) → m ≤ n → ((k : ℕ) → k < m → t k ≡ u k) → ((k : ℕ) → k < n - m → t (m + k) ≡ v k)
+    → allBelow n t ≡ (allBelow m u && allBelow (n - m) v)
+allBelow-parts m n t u v h a b =
+    let e : n ≡ m + (n - m) = omega arith in
+    ap (λ (k : ℕ). allBelow k t) e ∙ allBelow-split m (n - m) t ∙ ap₂ _&&_ (all-same m t u a) (all-same (n - m) (λ k. t (m + k)) v b)
+
 -- ---- a list that is tabulated
 module _ {A : Type 0} (f : ℕ → A) where
   pub length-run : (n i : ℕ) → length (run n i f) ≡ n
@@ -188,6 +195,16 @@ run-same (suc n) i j f g e =
 
 pub tabulate-same : {A : Type 0} (n : ℕ) (f g : ℕ → A) → ((k : ℕ) → k < n → f k ≡ g k) → tabulate n f ≡ tabulate n g
 tabulate-same n f g e = run-same n 0 0 f g (λ k h. let z : 0 + k ≡ k = omega arith in rw z (e k h))
+
+-- a list whose first m places are one list, and those after another
+pub tabulate-parts : {A : Type 0} (m n : ℕ) (f g h : ℕ → A) → m ≤ n → ((k : ℕ) → k < m → f k ≡ g k) → ((k : ℕ) → k < n - m → f (m + k) ≡ h k)
+    → tabulate n f ≡ tabulate m g ++ tabulate (n - m) h
+tabulate-parts m n f g h l a b =
+    let e : n ≡ m + (n - m) = omega arith in
+    let z : 0 + m ≡ m = omega arith in
+    ap (λ (k : ℕ). tabulate k f) e
+    ∙ run-split f m (n - m) 0
+    ∙ ap₂ _++_ (tabulate-same m f g a) (run-same (n - m) (0 + m) 0 f h (λ k q. let w : 0 + k ≡ k = omega arith in rw (z, w) (b k q)))
 
 -- a loop that fills a list d from the front, and stops after m: the rest is as it was
 pub tab-rest : {A : Type 0} (f : ℕ → A) (z : A) (d : List A) (m : ℕ) → m ≤ length d → tabulate m f ++ drop m d ≡ tabulate (length d) (λ k. pick (ltb k m) (f k) (getD d k z))

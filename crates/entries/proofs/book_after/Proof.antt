@@ -27,8 +27,11 @@ counts-after-requires c κs = let s = c .before .before .before .before .before 
 nexts-after-requires : tie.Need-nexts-after-requires
 nexts-after-requires c κs = let s = c .before .before .before .before .before .before .before .before .before .before in ((v s .regions, s .pre .0 .marked-size), v s .next)
 
+mul-marks-after : tie.Need-mul-marks-after
+mul-marks-after c = omega (arith, v (c .before .before .before .before .before .before .before .before .before .before .before) .regions)
+
 marks-after-requires : tie.Need-marks-after-requires
-marks-after-requires c κs = search needs
+marks-after-requires c κs = omega (arith, v (c .before .before .before .before .before .before .before .before .before .before .before .before .before) .regions)
 
 add-after : tie.Need-add-after
 add-after c = omega (arith, c .before .before .before .before .before .before .before .before .before .before .before .before .before .before .before .pre .1)
@@ -65,6 +68,7 @@ book-after-spec =
     take-requires
     counts-after-requires
     nexts-after-requires
+    mul-marks-after
     marks-after-requires
     add-after
     position-after-requires

@@ -1,29 +1,29 @@
 -- `entries::periods::marks_after` meets its contract. Assumes nothing.
-use mathlib.Core.Path.{_≡_}
+use mathlib.Core.Path.{_≡_, _∙_}
 use mathlib.Core.List.{_++_}
 use Prim.Native.Nat.{_≤_, _-_}
 use native.Mathlib.Omega.{arith}
 use borrow.Author.Needs.{needs}
 use mir.Syntax.{w64}
-use mir.Val.{SFits, toZ}
+use mir.Val.{SFits, ofZ, toZ}
 use mir.Facts.{toZ-ofZ}
 use lib.IntN.{pos}
 use lib.ListN.{length, getD, drop, length-set}
 use Rattle.laws.specs.Lists.{tabulate}
-use Rattle.laws.proofs.Lists.{tab-none, tab-step, tab-done}
+use Rattle.laws.proofs.Lists.{tab-none, tab-step, tab-rest}
 use Rattle.entries.specs.Periods.{markAfter}
 use Rattle.entries.proofs.periods.marks_after.Statement.{statement}
 use Rattle.entries.proofs.periods.marks_after.Tie as tie
 
 abbrev Inv-loop : tie.InvT-loop
-Inv-loop threshold last sums marks after₀ k₀ after k =
-    (k ≤ 88) × (length marks ≡ 88) × (length after ≡ 88) × (after ≡ tabulate k (λ q. markAfter (toZ w64 threshold) last (getD sums q (pos 0)) (getD marks q 0)) ++ drop k marks)
+Inv-loop n threshold last sums marks after₀ k₀ after k =
+    (k ≤ n) × (length marks ≡ 88) × (length after ≡ 88) × (after ≡ tabulate k (λ q. markAfter (toZ w64 threshold) last (getD sums q (pos 0)) (getD marks q 0)) ++ drop k marks)
 
 abbrev μ-loop : tie.MeasureT-loop
-μ-loop threshold last sums marks after₀ k₀ after k = 88 - k
+μ-loop n threshold last sums marks after₀ k₀ after k = n - k
 
 loop-holds : tie.Need-loop-holds Inv-loop μ-loop
-loop-holds c = let n : length (c .args .t4) ≡ 88 = search needs in (omega arith, n, n, tab-none _ _)
+loop-holds c = let n : length (c .args .t5) ≡ 88 = search needs in (omega arith, n, n, tab-none _ _)
 
 mul-mark-after : tie.Need-mul-mark-after Inv-loop μ-loop
 mul-mark-after c = omega arith
@@ -57,8 +57,11 @@ returns : tie.Need-returns Inv-loop μ-loop
 returns c =
     let l = c .before .loop in
     let s = c .before .before in
-    let e : l .k ≡ 88 = omega arith in
-    rw (toZ-ofZ (s .fits .threshold)) at (tab-done _ _ _ _ _ (l .inv .3) e (omega arith))
+    let a = s .args in
+    let m = a .t5 in
+    let e : l .k ≡ a .n = omega arith in
+    let r = tab-rest (λ q. markAfter (toZ w64 (ofZ w64 (a .threshold))) (a .last) (getD (a .sums .now) q (pos 0)) (getD m q 0)) 0 m (l .k) (omega arith) in
+    rw (l .inv .1, e, toZ-ofZ (s .fits .threshold)) at (l .inv .3 ∙ r)
 
 pub marks-after-spec : {M : Type 1} → statement M
 marks-after-spec =

@@ -1,82 +1,24 @@
--- `image::loading::bad_in` meets its contract. The loop's invariant: every price passed is in range. Assumes nothing.
+-- `image::loading::bad_in` meets its contract. Assumes nothing.
 use mathlib.Core.Path.{_≡_, sym, ap, _∙_}
-use mathlib.Core.Bool.{false, not}
-use Prim.Native.Nat.{ℕ, _≤_, _<_, _-_}
-use native.Mathlib.Omega.{arith}
-use borrow.Author.Count.{below-more}
-use mir.Syntax.{w32}
-use mir.Val.{SFits}
-use Rattle.laws.proofs.Integers.{signed}
-use Rattle.laws.proofs.Lists.{firstOf-found, firstOf-none}
-use Rattle.pricing.specs.Holding.{isEnergy, inRange}
-use Rattle.image.specs.Loading.{priceAt}
+use mathlib.Core.Bool.{not}
 use borrow.Author.Needs.{needs}
+use Rattle.laws.proofs.Lists.{all-at, firstOf-none}
 use Rattle.image.proofs.loading.bad_in.Statement.{statement}
 use Rattle.image.proofs.loading.bad_in.Tie as tie
 
-abbrev Inv-loop : tie.InvT-loop
-Inv-loop bytes from count market i₀ i = (i ≤ count) × ((k : ℕ) → k < i → not (inRange (isEnergy market) (priceAt bytes from k)) ≡ false)
+all-in-requires : tie.Need-all-in-requires
+all-in-requires c κs = search needs
 
-abbrev μ-loop : tie.MeasureT-loop
-μ-loop bytes from count market i₀ i = count - i
-
--- the test is of the price that was read
-tested : (c : tie.After-in-range Inv-loop μ-loop) → let a = c .before .before .before .before .before .args in c .in-range .result ≡ inRange (isEnergy (a .market)) (priceAt (a .bytes .now) (a .from) (c .before .before .before .loop .i))
-tested c =
-    let a = c .before .before .before .before .before .args in
-    let f : SFits w32 (c .before .get-word .result) = search needs in
-    (simp (signed, f) at (c .in-range .ensures)) ∙ ap (inRange (isEnergy (a .market))) (c .before .get-word .ensures)
-
-loop-holds : tie.Need-loop-holds Inv-loop μ-loop
-loop-holds c = (omega arith, λ k h. absurd (omega arith))
-
-mul-get-word : tie.Need-mul-get-word Inv-loop μ-loop
-mul-get-word c = omega arith
-
-add-get-word : tie.Need-add-get-word Inv-loop μ-loop
-add-get-word c = omega arith
-
-get-word-requires : tie.Need-get-word-requires Inv-loop μ-loop
-get-word-requires c κs = omega arith
-
-in-range-requires : tie.Need-in-range-requires Inv-loop μ-loop
-in-range-requires c κs = search needs
-
-returns : tie.Need-returns Inv-loop μ-loop
+returns : tie.Need-returns
 returns c =
-    let l = c .before .before .before .before .loop in
-    sym (firstOf-found _ _ _ (omega arith) (l .inv .1) (ap not (sym (tested (c .before))) ∙ c .if1 .taken))
+    let e = sym (c .before .all-in .ensures) ∙ c .if1 .taken in
+    sym (firstOf-none _ _ (λ k h. ap not (all-at _ _ e k h)))
 
-add-i : tie.Need-add-i Inv-loop μ-loop
-add-i c = omega arith
+search-bad-requires : tie.Need-search-bad-requires
+search-bad-requires c κs = search needs
 
-loop-less : tie.Need-loop-less Inv-loop μ-loop
-loop-less c = omega arith
-
-loop-again : tie.Need-loop-again Inv-loop μ-loop
-loop-again c =
-    let l = c .before .before .before .before .loop in
-    (omega arith, below-more _ _ (l .inv .1) (ap not (sym (tested (c .before))) ∙ c .if1 .left))
-
-returns-2 : tie.Need-returns-2 Inv-loop μ-loop
-returns-2 c =
-    let l = c .before .loop in
-    let e : l .i ≡ c .before .before .before .args .count = omega arith in
-    e ∙ sym (firstOf-none _ _ (λ k h. l .inv .1 k (omega arith)))
+returns-2 : tie.Need-returns-2
+returns-2 c = search needs
 
 pub bad-in-spec : {M : Type 1} → statement M
-bad-in-spec =
-    tie.close
-    (tie.spec
-    Inv-loop
-    μ-loop
-    loop-holds
-    mul-get-word
-    add-get-word
-    get-word-requires
-    in-range-requires
-    returns
-    add-i
-    loop-less
-    loop-again
-    returns-2)
+bad-in-spec = tie.close (tie.spec all-in-requires returns search-bad-requires returns-2)

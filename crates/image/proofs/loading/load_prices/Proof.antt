@@ -70,7 +70,7 @@ mul-load-window c = let d = c .before .before in omega (arith, here d .base, few
 load-window-requires : tie.Need-load-window-requires Inv-loop μ-loop
 load-window-requires c κs =
     let d = c .before .before in
-    (omega (arith, here d .base, d .before .before .before .pre .1, d .before .loop .inv .1), room d)
+    (here d .count, omega (arith, here d .base, d .before .before .before .pre .1, d .before .loop .inv .1), room d)
 
 mul-place : tie.Need-mul-place Inv-loop μ-loop
 mul-place c = omega (arith, here (c .before .before .before .before) .place)

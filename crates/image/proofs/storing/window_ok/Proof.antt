@@ -1,120 +1,86 @@
--- `image::storing::window_ok` meets its contract. The loop's invariant: the prices passed are in range, and what is still to be added is the same at every turn. Assumes nothing.
-use mathlib.Core.Path.{_≡_, ap, _∙_}
-use Prim.Native.Nat.{_≤_, _<_, _-_, _+_, _*_}
+-- `image::storing::window_ok` meets its contract. Assumes nothing.
+use mathlib.Core.Path.{_≡_, refl, sym, ap₂, _∙_}
+use mathlib.Core.Bool.{_&&_}
 use native.Mathlib.Omega.{arith}
-use lib.IntN.{ℤ, pos, natAbs, _+ℤ_}
-use lib.ListN.{getD}
-use mir.Syntax.{w32, w64}
-use mir.Val.{SFits, toZ}
-use mir.Facts.{toZ-ofZ}
-use Rattle.laws.specs.Lists.{run, allBelow}
-use Rattle.laws.specs.Lists as Lists
-use Rattle.laws.proofs.Integers.{signed, i32-i64, add-fits, fits-abs, abs-add}
-use Rattle.laws.proofs.Lists.{allBelow-step, allBelow-none}
-use Rattle.pricing.specs.Holding.{isEnergy, inRange}
-use Rattle.image.specs.Counted.{wrap, windowOf}
-use Rattle.image.proofs.Words.{wrap-lt}
-use Rattle.image.proofs.Walks.{total-none, total-step, total-done}
 use borrow.Author.Needs.{needs}
+use lib.IntN.{ℤ, _+ℤ_}
+use mir.Syntax.{w64}
+use mir.Val.{SFits}
+use mir.Facts.{toZ-ofZ}
+use Rattle.laws.proofs.Integers.{signed, add-fits}
+use Rattle.image.proofs.Runs.{Older, older, all-runs, total-runs}
 use Rattle.image.proofs.storing.window_ok.Statement.{statement}
 use Rattle.image.proofs.storing.window_ok.Tie as tie
 
-abbrev Inv-loop : tie.InvT-loop
-Inv-loop ring base window start count market sum ok₀ total₀ i₀ ok total i = (i ≤ count) × (ok ≡ allBelow i (λ k. inRange (isEnergy market) (getD ring (base + wrap window (start + k)) (pos 0)))) × (natAbs (toZ w64 total) ≤ 2147483648 * i) × (toZ w64 total +ℤ Lists.total (run (count - i) i (λ k. getD ring (base + wrap window (start + k)) (pos 0))) ≡ Lists.total (windowOf ring base window start count))
+runs : (c : tie.After-before-end) → let a = c .before .args in Older (a .window) (a .start) (a .count) (c .before-end .result)
+runs c =
+    let s = c .before in
+    rw (← c .before-end .ensures) at (older (s .args .window) (s .args .start) (s .args .count) (s .pre .0 .0) (s .pre .0 .1))
 
-abbrev μ-loop : tie.MeasureT-loop
-μ-loop ring base window start count market sum ok₀ total₀ i₀ ok total i = count - i
+module _ (c : tie.After-run-total2) where
+  abbrev older-total : ℤ
+  older-total = c .before .run-total .result
 
--- a price's place in its window
-spot : (c : tie.After-wrapped Inv-loop μ-loop) → c .wrapped .result < c .before .before .before .args .window
-spot c =
-    let a = c .before .before .before .args in
-    omega (arith, c .wrapped .ensures, wrap-lt (a .window) (a .start + c .before .before .loop .i) (omega arith))
+  abbrev newer-total : ℤ
+  newer-total = c .run-total2 .result
 
-module _ (c : tie.After-in-range Inv-loop μ-loop) where
-  abbrev price : ℤ
-  price = getD (c .before .before .before .before .before .args .ring .now) (c .before .before .before .before .before .args .base + c .before .before .wrapped .result) (pos 0)
+  fits-1 : SFits w64 older-total
+  fits-1 = search needs
 
-  fits : SFits w32 price
-  fits = search needs
+  fits-2 : SFits w64 newer-total
+  fits-2 = search needs
 
-  sum-fits : SFits w64 (toZ w64 (c .before .before .before .before .loop .total) +ℤ price)
-  sum-fits = omega (arith, add-fits, fits-abs w32 price fits)
+  sum-fits : SFits w64 (older-total +ℤ newer-total)
+  sum-fits = let o = runs (c .before .before .before .before) in omega (arith, add-fits, o .part, c .before .run-total .ensures .1, c .run-total2 .ensures .1)
 
-  price-is : let a = c .before .before .before .before .before .args in price ≡ getD (a .ring .now) (a .base + wrap (a .window) (a .start + c .before .before .before .before .loop .i)) (pos 0)
-  price-is = rw (c .before .before .wrapped .ensures)
+before-end-requires : tie.Need-before-end-requires
+before-end-requires c κs = search needs
 
-loop-holds : tie.Need-loop-holds Inv-loop μ-loop
-loop-holds c = (omega arith, allBelow-none _, omega arith, total-none _ _)
+sub-newer : tie.Need-sub-newer
+sub-newer c = omega (arith, runs c .part)
 
-add-wrapped : tie.Need-add-wrapped Inv-loop μ-loop
-add-wrapped c = omega arith
+add-run-ok : tie.Need-add-run-ok
+add-run-ok c = search needs
 
-wrapped-requires : tie.Need-wrapped-requires Inv-loop μ-loop
-wrapped-requires c κs = search needs
+run-ok-requires : tie.Need-run-ok-requires
+run-ok-requires c κs = omega (arith, runs c .within)
 
-add-price : tie.Need-add-price Inv-loop μ-loop
-add-price c = omega (arith, spot c)
+run-ok-requires-2 : tie.Need-run-ok-requires-2
+run-ok-requires-2 c κs = search needs
 
-mul-price : tie.Need-mul-price Inv-loop μ-loop
-mul-price c = omega (arith, spot c)
+add-run-total : tie.Need-add-run-total
+add-run-total c = search needs
 
-shared-slice-copy-out-price : tie.Need-shared-slice-copy-out-price Inv-loop μ-loop
-shared-slice-copy-out-price c = omega (arith, spot c)
+run-total-requires : tie.Need-run-total-requires
+run-total-requires c κs = let o = runs (c .before .before) in (omega (arith, o .within), omega (arith, o .part))
 
-in-range-requires : tie.Need-in-range-requires Inv-loop μ-loop
-in-range-requires c κs = search needs
+run-total-requires-2 : tie.Need-run-total-requires-2
+run-total-requires-2 c κs = search needs
 
-cast-total : tie.Need-cast-total Inv-loop μ-loop
-cast-total c = simp (signed, fits c) (i32-i64 (fits c))
+add-total : tie.Need-add-total
+add-total c = simp (signed, fits-1 c, fits-2 c) (sum-fits c)
 
-add-total : tie.Need-add-total Inv-loop μ-loop
-add-total c = simp (signed, fits c) (sum-fits c)
-
-add-i : tie.Need-add-i Inv-loop μ-loop
-add-i c = omega arith
-
-loop-less : tie.Need-loop-less Inv-loop μ-loop
-loop-less c = omega arith
-
-loop-again : tie.Need-loop-again Inv-loop μ-loop
-loop-again c =
-    let l = c .before .before .before .before .loop in
-    let a = c .before .before .before .before .before .args in
-    let z = toZ w64 (l .total) in
-    let o = simp (signed, fits c) at (c .in-range .ensures) in
-    simp (signed, fits c, sum-fits c) (
-      omega arith,
-      allBelow-step _ _ (l .inv .1) (o ∙ ap (inRange (isEnergy (a .market))) (price-is c)),
-      omega (arith, fits-abs w32 (price c) (fits c), abs-add z (price c)),
-      total-step _ _ _ z _ (price c) (omega arith) (price-is c) (l .inv .3),
-    )
-
-returns : tie.Need-returns Inv-loop μ-loop
+returns : tie.Need-returns
 returns c =
-    let a = c .before .before .args in
-    let l = c .before .loop in
+    let b = c .before .before .before .before in
+    let a = b .before .args in
+    let m = b .before-end .result in
     let h : SFits w64 (a .sum) = search needs in
-    let e : l .i ≡ a .count = omega arith in
-    let t = total-done (λ k. getD (a .ring .now) (a .base + wrap (a .window) (a .start + k)) (pos 0)) (a .count) (l .i) (toZ w64 (l .total)) _ (omega arith) (l .inv .3) in
-    rw (toZ-ofZ h, t, l .inv .1, e)
+    let k = ap₂ _&&_ (c .before .before .before .run-ok .ensures) (c .before .before .run-ok2 .ensures) ∙ sym (all-runs (a .ring .now) (a .base) (a .window) (a .start) (a .count) m (runs b) (a .market)) in
+    let t = ap₂ _+ℤ_ (c .before .run-total .ensures .0) (c .run-total2 .ensures .0) ∙ sym (total-runs (a .ring .now) (a .base) (a .window) (a .start) (a .count) m (runs b)) in
+    rw (toZ-ofZ (fits-1 c), toZ-ofZ (fits-2 c), toZ-ofZ (sum-fits c), toZ-ofZ h, k, t) refl
 
 pub window-ok-spec : {M : Type 1} → statement M
 window-ok-spec =
     tie.close
     (tie.spec
-    Inv-loop
-    μ-loop
-    loop-holds
-    add-wrapped
-    wrapped-requires
-    add-price
-    mul-price
-    shared-slice-copy-out-price
-    in-range-requires
-    cast-total
+    before-end-requires
+    sub-newer
+    add-run-ok
+    run-ok-requires
+    run-ok-requires-2
+    add-run-total
+    run-total-requires
+    run-total-requires-2
     add-total
-    add-i
-    loop-less
-    loop-again
     returns)

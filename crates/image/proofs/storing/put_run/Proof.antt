@@ -1,0 +1,86 @@
+-- `image::storing::put_run` meets its contract. The loop's invariant: what is still to go is the same at every turn. Assumes nothing.
+use mathlib.Core.Path.{_≡_, refl, _∙_}
+use Prim.Native.Nat.{_≤_, _-_, _+_, _*_}
+use native.Mathlib.Omega.{arith}
+use lib.IntN.{pos}
+use lib.ListN.{length, getD}
+use lib.Seq.{sets}
+use mir.Syntax.{w32}
+use mir.Val.{SFits}
+use mir.Facts.{toZ-ofZ}
+use Rattle.laws.specs.Lists.{run}
+use Rattle.image.specs.Layout.{words}
+use Rattle.image.specs.Working.{placesOf}
+use Rattle.image.proofs.Walks.{words-none, words-step, words-done}
+use borrow.Author.Needs.{needs}
+use Rattle.image.proofs.storing.put_run.Statement.{statement}
+use Rattle.image.proofs.storing.put_run.Tie as tie
+
+abbrev Inv-loop : tie.InvT-loop
+Inv-loop ring from count buffer₀ at i₀ buffer i = (i ≤ count) × (length buffer ≡ length buffer₀) × (sets buffer (at + 4 * i) (words (run (count - i) i (λ k. getD ring (from + k) (pos 0)))) ≡ sets buffer₀ at (words (placesOf ring from count)))
+
+abbrev μ-loop : tie.MeasureT-loop
+μ-loop ring from count buffer₀ at i₀ buffer i = count - i
+
+loop-holds : tie.Need-loop-holds Inv-loop μ-loop
+loop-holds c = (omega arith, refl, words-none _ _ _ _)
+
+mul-put-word : tie.Need-mul-put-word Inv-loop μ-loop
+mul-put-word c = omega arith
+
+add-put-word : tie.Need-add-put-word Inv-loop μ-loop
+add-put-word c = omega arith
+
+add-put-word-2 : tie.Need-add-put-word-2 Inv-loop μ-loop
+add-put-word-2 c = omega arith
+
+mul-put-word-2 : tie.Need-mul-put-word-2 Inv-loop μ-loop
+mul-put-word-2 c = omega arith
+
+shared-slice-copy-out-put-word : tie.Need-shared-slice-copy-out-put-word Inv-loop μ-loop
+shared-slice-copy-out-put-word c = omega arith
+
+put-word-requires : tie.Need-put-word-requires Inv-loop μ-loop
+put-word-requires c κs = omega arith
+
+add-i : tie.Need-add-i Inv-loop μ-loop
+add-i c = omega arith
+
+loop-less : tie.Need-loop-less Inv-loop μ-loop
+loop-less c = omega arith
+
+loop-again : tie.Need-loop-again Inv-loop μ-loop
+loop-again c =
+    let l = c .before .before .before .before .before .before .loop in
+    let a = c .before .before .before .before .before .before .before .before .args in
+    let f : SFits w32 (getD (a .ring .now) (a .from + l .i) (pos 0)) = search needs in (
+      omega arith,
+      c .before .before .put-word .kept .0 ∙ l .inv .1,
+      rw (c .before .before .put-word .ensures)
+          (words-step (λ k. getD (a .ring .now) (a .from + k) (pos 0)) _ _ _ _ _ _ (omega arith) (toZ-ofZ f) (l .inv .2)),
+    )
+
+same-length : tie.Need-same-length Inv-loop μ-loop
+same-length c = omega arith
+
+returns : tie.Need-returns Inv-loop μ-loop
+returns c = words-done _ _ _ _ _ _ (omega arith) (c .before .loop .inv .2)
+
+pub put-run-spec : {M : Type 1} → statement M
+put-run-spec =
+    tie.close
+    (tie.spec
+    Inv-loop
+    μ-loop
+    loop-holds
+    mul-put-word
+    add-put-word
+    add-put-word-2
+    mul-put-word-2
+    shared-slice-copy-out-put-word
+    put-word-requires
+    add-i
+    loop-less
+    loop-again
+    same-length
+    returns)
