@@ -5,14 +5,12 @@ use native.Mathlib.Omega.{arith}
 use lib.IntN.{pos}
 use lib.ListN.{length, getD}
 use lib.Seq.{sets}
-use mir.Syntax.{w32}
-use mir.Val.{SFits}
 use mir.Facts.{toZ-ofZ}
 use Rattle.laws.specs.Lists.{run}
 use Rattle.image.specs.Layout.{words}
 use Rattle.image.specs.Working.{placesOf}
 use Rattle.image.proofs.Walks.{words-none, words-step, words-done}
-use borrow.Author.Needs.{needs}
+use borrow.Author.Needs.{sfits-of}
 use Rattle.image.proofs.storing.put_run.Statement.{statement}
 use Rattle.image.proofs.storing.put_run.Tie as tie
 
@@ -53,7 +51,7 @@ loop-again : tie.Need-loop-again Inv-loop μ-loop
 loop-again c =
     let l = c .before .before .before .before .before .before .loop in
     let a = c .before .before .before .before .before .before .before .before .args in
-    let f : SFits w32 (getD (a .ring .now) (a .from + l .i) (pos 0)) = search needs in (
+    let f = sfits-of (c .before .before .before .put-word-arg2 .given) in (
       omega arith,
       c .before .before .put-word .kept .0 ∙ l .inv .1,
       rw (c .before .before .put-word .ensures)
