@@ -1,5 +1,5 @@
 // Amount texts, among them the ends of the range, and a buffer that is too short.
-use pricing::text::amount_text;
+use amount::amount_text;
 
 fn show(cents: i64) {
     let mut buffer = [0u8; 24];

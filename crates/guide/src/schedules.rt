@@ -1,7 +1,7 @@
 // Schedules of one half-hour a day: 28 days of six prices.
-use pricing::schedule::Answer;
-use pricing::schedule::Making;
-use pricing::schedule::schedule;
+use schedule::Answer;
+use schedule::Making;
+use schedule::schedule;
 use stage::price;
 
 fn show_number(number: u64, place: usize) {

@@ -10,8 +10,9 @@ use Rattle.laws.specs.Base.{minZ, maxZ}
 use Rattle.laws.specs.Lists.{run, allBelow, anyBelow, countBelow, firstOf, total, lastN}
 use Rattle.laws.specs.Tables.{Row, sameNumbers, agree}
 use Rattle.pricing.proofs.Cases as Pricing
+use Rattle.schedule.proofs.Cases as Schedule
 use Rattle.pricing.specs.Indexing.{indexed}
-use Rattle.pricing.specs.Schedule.{mean}
+use Rattle.schedule.specs.Schedule.{mean}
 use Rattle.pricing.specs.Rounding.{nearest, rounded}
 use Rattle.pricing.specs.Holding.{held}
 use Rattle.pricing.specs.Carrying.{carried}
@@ -132,11 +133,11 @@ bookCases =
     }
     ∷ []
 
--- the ten of the paper: two of the index and the one of the means stand in the lower crate
+-- the ten of the paper: two of the index and the one of the means stand in the lower crates
 unfoldable pub cases : List Row
-cases = Pricing.cases ++ bookCases
+cases = Pricing.cases ++ (Schedule.cases ++ bookCases)
 
 -- the one test over all of them
 pub cases-agree : agree cases ≡ true
-unfolding agree cases bookCases Pricing.cases indexed mean sameNumbers answers Ledger.play Book.play entryVerdict entriesOf firstOf run countBelow published Ledger.reportOf atLeast Report.reportVerdict limit total administeredAt Routes.limitOf lastN anyBelow Routes.overAll unmarkedPrices lastSet Routes.routesFrom before tighter allBelow Routes.along hasLimit atMost cappedBy effective Opening.opened Opening.openVerdict Entering.entered Report.reportOf valid over powerOf minZ maxZ held carried rounded nearest Routes.joined Routes.after scheduled anyAdministered
+unfolding agree cases bookCases Pricing.cases Schedule.cases indexed mean sameNumbers answers Ledger.play Book.play entryVerdict entriesOf firstOf run countBelow published Ledger.reportOf atLeast Report.reportVerdict limit total administeredAt Routes.limitOf lastN anyBelow Routes.overAll unmarkedPrices lastSet Routes.routesFrom before tighter allBelow Routes.along hasLimit atMost cappedBy effective Opening.opened Opening.openVerdict Entering.entered Report.reportOf valid over powerOf minZ maxZ held carried rounded nearest Routes.joined Routes.after scheduled anyAdministered
 cases-agree = refl

@@ -2,14 +2,11 @@
 use mathlib.Core.Path.{_≡_, refl}
 use mathlib.Core.Bool.{true}
 use mathlib.Core.List.{List, [], _∷_}
-use Prim.Native.Nat.{ℕ}
-use lib.IntN.{ℤ, pos, negsuc}
-use Rattle.laws.specs.Lists.{total}
+use lib.IntN.{ℤ, pos}
 use Rattle.laws.specs.Tables.{Row, sameNumbers, agree}
 use Rattle.pricing.specs.declared.indexing.Quarters.{Quarters}
 use Rattle.pricing.specs.Indexing.{Outcome, indexed}
-use Rattle.pricing.specs.Rounding.{nearest, rounded}
-use Rattle.pricing.specs.Schedule.{mean}
+use Rattle.pricing.specs.Rounding.{nearest}
 
 -- number and dollars of an index
 abbrev told : Outcome → List ℤ
@@ -28,16 +25,9 @@ cases =
     record { computed = told (indexed 1125000 yearC yearB 1359100); paper = pos 0 ∷ pos 1398100 ∷ [] }
     -- "12,500, last 15,100: 15,500"
     ∷ record { computed = told (indexed 12500 yearC yearB 15100); paper = pos 0 ∷ pos 15500 ∷ [] }
-    -- "Means of 2.5 and −2.5 cents: 3, −3"
-    ∷ record {
-      computed =
-          mean (pos 2 ∷ pos 3 ∷ pos 2 ∷ pos 3 ∷ pos 2 ∷ pos 3 ∷ [])
-          ∷ mean (negsuc 1 ∷ negsuc 2 ∷ negsuc 1 ∷ negsuc 2 ∷ negsuc 1 ∷ negsuc 2 ∷ []) ∷ [];
-      paper = pos 3 ∷ negsuc 2 ∷ [];
-    }
     ∷ []
 
 -- the one test over the rows
 pub cases-agree : agree cases ≡ true
-unfolding agree cases sameNumbers indexed nearest rounded mean total
+unfolding agree cases sameNumbers indexed nearest
 cases-agree = refl

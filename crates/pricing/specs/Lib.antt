@@ -3,5 +3,3 @@ pub mod Rounding
 pub mod Holding
 pub mod Carrying
 pub mod Indexing
-pub mod Schedule
-pub mod Text

@@ -13,8 +13,8 @@ use mir.Syntax.{w64}
 use mir.Val.{SFits}
 use Rattle.laws.proofs.Tests.{lt-or-ge}
 use Rattle.laws.proofs.Integers.{fits-abs}
-use Rattle.pricing.specs.Text.{decimal, sizeText, amountText, paste, countIn, writtenIn}
-use Rattle.pricing.proofs.Texts.{length-small, length-step, length-size, length-paste, paste-next, paste-paste, room}
+use Rattle.amount.specs.Text.{decimal, sizeText, amountText, paste, countIn, writtenIn}
+use Rattle.amount.proofs.Texts.{length-small, length-step, length-size, length-paste, paste-next, paste-paste, room}
 use Rattle.sheet.specs.Put.{Put}
 use Rattle.sheet.specs.Sheet.{lineOf}
 

@@ -9,7 +9,7 @@ use borrow.Author.Tests.{lt-ltb, le-ltb, eq-eqb, ne-eqb}
 use lib.IntN.{pos}
 use lib.ListN.{length, getD, drop, length-append}
 use Rattle.laws.proofs.Lists.{flat-place}
-use Rattle.pricing.specs.Text.{paste}
+use Rattle.amount.specs.Text.{paste}
 use Rattle.book.specs.declared.record.Book.{Book}
 use Rattle.image.specs.Counted.{joined, marketCount}
 use Rattle.image.specs.Layout.{headFrom}

@@ -6,7 +6,7 @@ use lib.Dec.{eqb, ltb}
 use lib.IntN.{ℤ, pos}
 use lib.ListN.{length, getD}
 use Rattle.laws.specs.Base.{pick}
-use Rattle.pricing.specs.Text.{decimal, amountText}
+use Rattle.amount.specs.Text.{decimal, amountText}
 use Rattle.book.specs.declared.record.Book.{Book}
 use Rattle.book.specs.Record.{marketsOf, placeOf}
 use Rattle.image.specs.Counted.{joined, marketCount, countAt}

@@ -12,7 +12,7 @@ use image::loading::load;
 ghost use mathlib.Core.Path.{_≡_};
 ghost use Prim.Native.Nat.{_≤_};
 ghost use lib.ListN.{length};
-ghost use Rattle.pricing.specs.Text.{paste};
+ghost use Rattle.amount.specs.Text.{paste};
 ghost use Rattle.image.specs.Layout.{headFrom};
 ghost use Rattle.image.specs.Loading.{ringOf, checked, bookFrom};
 ghost use Rattle.sheet.specs.Put.{Put};

@@ -1,10 +1,10 @@
 // Texts put into a buffer one after the other: each function answers where its text ends.
-use pricing::text::put_decimal;
-use pricing::text::write_amount;
+use amount::put_decimal;
+use amount::write_amount;
 ghost use mathlib.Core.List.{[], _∷_, _++_};
 ghost use Prim.Native.Nat.{_+_, _≤_};
 ghost use lib.ListN.{length};
-ghost use Rattle.pricing.specs.Text.{decimal, amountText};
+ghost use Rattle.amount.specs.Text.{decimal, amountText};
 ghost use Rattle.sheet.specs.Put.{Put};
 ghost use Rattle.sheet.specs.Sheet.{lineOf, refusedText};
 

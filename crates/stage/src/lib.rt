@@ -1,4 +1,5 @@
 // Plays calls on a book and prints what they answer: what the programs guide and guide_books are built of.
+use amount::amount_text;
 use book::opening::open;
 use book::record::Answer;
 use book::record::Book;
@@ -8,7 +9,6 @@ use book::report::Reading;
 use book::report::report;
 use entries::Publication;
 use entries::enter;
-use pricing::text::amount_text;
 
 pub fn say(text: &[u8]) {
     io::write_all(1, text);

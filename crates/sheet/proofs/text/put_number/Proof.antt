@@ -1,6 +1,6 @@
 -- `sheet::text::put_number` meets its contract. Assumes nothing.
 use borrow.Author.Needs.{needs}
-use Rattle.pricing.specs.Text.{decimal}
+use Rattle.amount.specs.Text.{decimal}
 use Rattle.sheet.proofs.Puts.{put-byte}
 use Rattle.sheet.proofs.text.put_number.Statement.{statement}
 use Rattle.sheet.proofs.text.put_number.Tie as tie

@@ -6,7 +6,7 @@ use Prim.Native.Nat.{ℕ, _+_, _-_, _≤_}
 use native.Mathlib.Omega.{arith}
 use lib.ListN.{length, take, drop}
 use Rattle.laws.proofs.Integers.{signed}
-use Rattle.pricing.specs.Text.{amountText}
+use Rattle.amount.specs.Text.{amountText}
 use Rattle.sheet.specs.Put.{Put}
 use Rattle.sheet.proofs.Puts.{amount-most, put-part, put-byte, put-length}
 use Rattle.sheet.proofs.text.put_sum.Statement.{statement}
