@@ -1,6 +1,6 @@
 // Little-endian numbers in byte slices, for every width up to eight bytes, and signed numbers by two's complement.
 ghost use mathlib.Core.Path.{_≡_};
-ghost use Prim.Native.Nat.{_+_, _≤_};
+ghost use Prim.Native.Nat.{_+_, _≤_, _<_};
 ghost use lib.ListN.{length};
 ghost use lib.Seq.{sets};
 ghost use mir.Syntax.{w32, w64};
@@ -20,6 +20,28 @@ pub fn get(bytes: &[u8], at: usize, width: usize) -> u64
         x = x * 256 + byte;
     }
     x
+}
+
+// The numbers in one, two and four bytes, as numbers so wide.
+pub fn get_u8(bytes: &[u8], at: usize) -> u8
+    requires { ⌜ at < length (now bytes) ⌝ }
+    ensures { λ r. ⌜ r ≡ numberAt (now (bytes .entry)) at 1 ⌝ }
+{
+    bytes[at]
+}
+
+pub fn get_u16(bytes: &[u8], at: usize) -> u16
+    requires { ⌜ at + 2 ≤ length (now bytes) ⌝ }
+    ensures { λ r. ⌜ r ≡ numberAt (now (bytes .entry)) at 2 ⌝ }
+{
+    get(bytes, at, 2) as u16
+}
+
+pub fn get_u32(bytes: &[u8], at: usize) -> u32
+    requires { ⌜ at + 4 ≤ length (now bytes) ⌝ }
+    ensures { λ r. ⌜ r ≡ numberAt (now (bytes .entry)) at 4 ⌝ }
+{
+    get(bytes, at, 4) as u32
 }
 
 // A number's lowest `width` bytes put at a place.

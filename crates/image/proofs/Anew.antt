@@ -15,8 +15,8 @@ use Rattle.laws.proofs.Lists.{getD-tabulate}
 use Rattle.book.specs.declared.record.Book.{Book}
 use Rattle.book.specs.Record.{marketsOf}
 use Rattle.book.proofs.Validities.{Valid}
-use Rattle.image.specs.Counted.{marketCount, countAt, oldestAt, inOrder}
-use Rattle.image.specs.Layout.{nextOf}
+use Rattle.head.specs.Counted.{marketCount, countAt, oldestAt, inOrder}
+use Rattle.head.specs.Layout.{nextOf}
 use Rattle.image.proofs.Markets.{region-of, count-of}
 use Rattle.image.proofs.Books.{anewWith}
 use Rattle.image.proofs.Prices.{laid, laid-order}

@@ -17,14 +17,14 @@ use Rattle.pricing.specs.Holding.{isEnergy}
 use Rattle.book.specs.declared.record.Book.{Book}
 use Rattle.book.specs.Record.{marketsOf, ringSize}
 use Rattle.book.proofs.Validities.{Valid}
-use Rattle.image.specs.Counted.{marketCount, countAt, inOrder, counted, howMany}
-use Rattle.image.specs.Layout.{widths, lengthOf, firsts, seconds, values, words, imageOf, bookOf, headFrom}
+use Rattle.head.specs.Counted.{marketCount, countAt, inOrder, counted, howMany}
+use Rattle.head.specs.Layout.{widths, lengthOf, firsts, seconds, values, words, imageOf, bookOf, headFrom}
 use Rattle.image.specs.Loading.{priceAt, firstBad, bookFrom, ringFrom}
-use Rattle.image.proofs.Lists.{sum-below, tabulate-list, joined-same, joined-at}
+use Rattle.head.proofs.Lists.{sum-below, tabulate-list, joined-same, joined-at}
 use Rattle.image.proofs.Words.{price-back}
 use Rattle.image.proofs.Readings.{before, start, pricesAt, padded, none-bad-whole}
 use Rattle.image.proofs.Markets.{price-fits, marketAt, at-below, at-place, prices-are, placed, placed-length, placed-used, placed-unused}
-use Rattle.image.proofs.Heads.{field-at, value-first, value-second}
+use Rattle.head.proofs.Heads.{field-at, value-first, value-second}
 use Rattle.image.proofs.Typed.{Typed, threshold-fits, limits-fit, fit-of}
 use Rattle.image.proofs.Lengths.{head-length, length-counted, length-image}
 use Rattle.image.proofs.Books.{anewWith, book-values}

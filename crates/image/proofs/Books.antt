@@ -11,9 +11,9 @@ use mir.Val.{SFits, Fits, ofZ, toZ}
 use mir.Facts.{toZ-ofZ, ofZ-toZ}
 use Rattle.laws.specs.Lists.{run, tabulate}
 use Rattle.book.specs.declared.record.Book.{Book}
-use Rattle.image.specs.Layout.{firsts, seconds, values, nextOf, bookOf}
-use Rattle.image.proofs.Lists.{take-run}
-use Rattle.image.proofs.Heads.{seconds-length, value-first, value-second}
+use Rattle.head.specs.Layout.{firsts, seconds, values, nextOf, bookOf}
+use Rattle.head.proofs.Lists.{take-run}
+use Rattle.head.proofs.Heads.{seconds-length, value-first, value-second}
 
 -- the book as loading leaves it: "Loading puts the oldest at the window's first place", and these sums
 abbrev pub anewWith : Book → List ℤ → Book

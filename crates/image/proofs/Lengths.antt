@@ -9,13 +9,13 @@ use Rattle.laws.proofs.Lists.{length-run}
 use Rattle.laws.proofs.Fields.{length-encode}
 use Rattle.book.specs.declared.record.Book.{Book}
 use Rattle.book.proofs.Validities.{Valid}
-use Rattle.image.specs.Counted.{marketCount, countAt, inOrder, counted}
-use Rattle.image.specs.Layout.{widths, headSize, lengthOf, values, words, imageOf}
-use Rattle.image.proofs.Lists.{length-joined}
+use Rattle.head.specs.Counted.{marketCount, countAt, inOrder, counted}
+use Rattle.head.specs.Layout.{widths, headSize, lengthOf, values, words, imageOf}
+use Rattle.head.proofs.Lists.{length-joined}
 use Rattle.image.proofs.Words.{length-words}
 use Rattle.image.proofs.Readings.{before}
 use Rattle.image.proofs.Markets.{prices-are}
-use Rattle.image.proofs.Heads.{widths-length, widths-size, values-length}
+use Rattle.head.proofs.Heads.{widths-length, widths-size, values-length}
 use Rattle.image.proofs.Typed.{Typed}
 
 pub head-length : (b : Book) → Typed b → length (encode widths (values (lengthOf b) b)) ≡ headSize

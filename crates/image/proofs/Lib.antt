@@ -1,8 +1,6 @@
-pub mod Lists
 pub mod Words
 pub mod Readings
 pub mod Markets
-pub mod Heads
 pub mod Typed
 pub mod Lengths
 pub mod Books
@@ -16,5 +14,4 @@ pub mod Numbers
 pub mod RoundTrips
 pub mod Walks
 pub mod Runs
-pub mod Rows
 pub mod Ways

@@ -19,8 +19,8 @@ use Rattle.pricing.specs.Holding.{inRange}
 use Rattle.book.specs.declared.record.Book.{Book}
 use Rattle.book.specs.Record.{marketsOf}
 use Rattle.book.proofs.Validities.{Valid}
-use Rattle.image.specs.Counted.{sumFrom, marketCount, countAt, howMany}
-use Rattle.image.proofs.Lists.{sum-split, sum-same, sum-blocks, getD-puts-same}
+use Rattle.head.specs.Counted.{sumFrom, marketCount, countAt, howMany}
+use Rattle.head.proofs.Lists.{sum-split, sum-same, sum-blocks, getD-puts-same}
 use Rattle.image.proofs.Readings.{before, placeAt}
 
 -- ---- a price in range is small

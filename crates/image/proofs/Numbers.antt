@@ -13,8 +13,8 @@ use Rattle.laws.proofs.Tests.{by-test}
 use Rattle.pricing.specs.Verdict.{Verdict, accepted, refused}
 use Rattle.book.specs.Record.{isAccepted}
 use Rattle.book.specs.Validity.{valid}
-use Rattle.image.specs.Counted.{howMany}
-use Rattle.image.specs.Layout.{headSize, lengthOf, headFrom}
+use Rattle.head.specs.Counted.{howMany}
+use Rattle.head.specs.Layout.{headSize, lengthOf, headFrom}
 use Rattle.image.specs.Loading.{zerosOk, headVerdict, firstBad, ringOf, loadVerdict, checked}
 
 -- a number of a list

@@ -15,9 +15,9 @@ use Rattle.laws.proofs.Lists.{all-at, at-all, length-run, getD-tabulate, tabula
 use Rattle.pricing.specs.Holding.{isEnergy, inRange}
 use Rattle.book.specs.declared.record.Book.{Book}
 use Rattle.book.specs.Record.{marketsOf}
-use Rattle.image.specs.Counted.{joined, sumFrom, marketCount, countAt, oldestAt, wrap, inOrder}
+use Rattle.head.specs.Counted.{joined, sumFrom, marketCount, countAt, oldestAt, wrap, inOrder}
 use Rattle.image.specs.Storing.{marketOk, pricesOk}
-use Rattle.image.proofs.Lists.{sum-same, at-left, tabulate-list, length-joined, joined-at}
+use Rattle.head.proofs.Lists.{sum-same, at-left, tabulate-list, length-joined, joined-at}
 use Rattle.image.proofs.Readings.{placeAt, padded, length-padded}
 
 -- ---- 22: market q's prices are in range, and their total is its sum

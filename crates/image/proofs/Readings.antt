@@ -17,10 +17,10 @@ use Rattle.laws.proofs.Lists.{length-run, tab-below, firstOf-none, firstOf-pass
 use Rattle.pricing.specs.Holding.{isEnergy, inRange}
 use Rattle.book.specs.declared.record.Book.{Book}
 use Rattle.book.specs.Record.{marketsOf, placeOf}
-use Rattle.image.specs.Counted.{joined, sumFrom, countAt}
-use Rattle.image.specs.Layout.{words, headSize}
+use Rattle.head.specs.Counted.{joined, sumFrom, countAt}
+use Rattle.head.specs.Layout.{words, headSize}
 use Rattle.image.specs.Loading.{priceAt, badIn, badFrom, windowsFrom, sumsFrom}
-use Rattle.image.proofs.Lists.{sum-next, sum-split}
+use Rattle.head.proofs.Lists.{sum-next, sum-split}
 use Rattle.image.proofs.Words.{words-append, words-back}
 
 -- how many prices stand before those of market q, and where these start

@@ -16,8 +16,8 @@ use Rattle.book.specs.Record.{closed, ringSize, isAccepted}
 use Rattle.book.specs.Validity.{valid}
 use Rattle.book.specs.Report.{reportOf}
 use Rattle.book.proofs.Validities.{is-valid}
-use Rattle.image.specs.Counted.{countAt, inOrder}
-use Rattle.image.specs.Layout.{lengthOf, headFrom, imageOf}
+use Rattle.head.specs.Counted.{countAt, inOrder}
+use Rattle.head.specs.Layout.{lengthOf, headFrom, imageOf}
 use Rattle.image.specs.Storing.{pricesOk, stored}
 use Rattle.image.specs.Loading.{ringOf, loadVerdict, bookFrom, ringFrom, loaded, checked}
 use Rattle.image.specs.Same.{Same}

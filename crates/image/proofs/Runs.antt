@@ -15,8 +15,8 @@ use Rattle.laws.proofs.Bytes.{sets-append}
 use Rattle.laws.proofs.Lists.{length-run, tabulate-parts, allBelow-parts}
 use Rattle.laws.proofs.Totals.{total-append}
 use Rattle.pricing.specs.Holding.{isEnergy, inRange}
-use Rattle.image.specs.Counted.{wrap, windowOf}
-use Rattle.image.specs.Layout.{words}
+use Rattle.head.specs.Counted.{wrap, windowOf}
+use Rattle.head.specs.Layout.{words}
 use Rattle.image.specs.Loading.{priceAt, loadedWindow}
 use Rattle.image.specs.Working.{placesOf, beforeEnd}
 use Rattle.image.proofs.Words.{length-words, words-append}

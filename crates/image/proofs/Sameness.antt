@@ -14,11 +14,11 @@ use Rattle.book.specs.declared.record.Book.{Book}
 use Rattle.book.specs.Record.{marketsOf, ringSize, isAccepted}
 use Rattle.book.specs.Validity.{valid}
 use Rattle.book.specs.Report.{reportOf}
-use Rattle.image.specs.Counted.{marketCount, inOrder}
-use Rattle.image.specs.Layout.{widths, firsts, seconds, values, lengthOf, words, imageOf}
+use Rattle.head.specs.Counted.{marketCount, inOrder}
+use Rattle.head.specs.Layout.{widths, firsts, seconds, values, lengthOf, words, imageOf}
 use Rattle.image.specs.Storing.{pricesOk, storeVerdict, stored, Outcome}
 use Rattle.image.specs.Same.{Same}
-use Rattle.image.proofs.Lists.{joined-same}
+use Rattle.head.proofs.Lists.{joined-same}
 use Rattle.image.proofs.Prices.{prices-ok, ok-prices}
 
 -- ---- an equivalence

@@ -16,14 +16,14 @@ use Rattle.laws.proofs.Fields.{length-decode, encode-decode}
 use Rattle.pricing.specs.Holding.{isEnergy}
 use Rattle.book.specs.Record.{marketsOf, ringSize}
 use Rattle.book.proofs.Validities.{Valid}
-use Rattle.image.specs.Counted.{joined, marketCount, countAt, inOrder, counted}
-use Rattle.image.specs.Layout.{widths, headSize, lengthOf, values, words, imageOf, bookOf, headFrom}
+use Rattle.head.specs.Counted.{joined, marketCount, countAt, inOrder, counted}
+use Rattle.head.specs.Layout.{widths, headSize, lengthOf, values, words, imageOf, bookOf, headFrom}
 use Rattle.image.specs.Storing.{pricesOk}
 use Rattle.image.specs.Loading.{priceAt, bookFrom, ringFrom}
-use Rattle.image.proofs.Lists.{joined-same}
+use Rattle.head.proofs.Lists.{joined-same}
 use Rattle.image.proofs.Readings.{before, start, pricesAt, goodAt, windows-whole, sums-whole, bytes-whole, all-good-whole}
 use Rattle.image.proofs.Markets.{price-size, count-of, at-below, marketAt, prices-are, placed, placed-length, placed-at, placed-used, placed-unused}
-use Rattle.image.proofs.Heads.{widths-length, field-at}
+use Rattle.head.proofs.Heads.{widths-length, field-at}
 use Rattle.image.proofs.Typed.{Typed}
 use Rattle.image.proofs.Books.{anewWith, values-book}
 use Rattle.image.proofs.Verdicts.{HeadOk, LoadOk, StoreOk}

@@ -19,9 +19,9 @@ use Rattle.pricing.specs.Holding.{limitsOk}
 use Rattle.book.specs.declared.record.Book.{Book}
 use Rattle.book.specs.Validity.{thresholdOk}
 use Rattle.book.proofs.Validities.{Valid}
-use Rattle.image.specs.Counted.{sumFrom}
-use Rattle.image.specs.Layout.{widths, firsts, seconds, values, lengthOf}
-use Rattle.image.proofs.Lists.{sum-most}
+use Rattle.head.specs.Counted.{sumFrom}
+use Rattle.head.specs.Layout.{widths, firsts, seconds, values, lengthOf}
+use Rattle.head.proofs.Lists.{sum-most}
 
 -- what a book's type says and rule 10 does not: the lengths of the arrays that an image holds
 pub record Typed (b : Book) : Type 0 where

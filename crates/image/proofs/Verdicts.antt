@@ -16,8 +16,8 @@ use Rattle.book.specs.declared.record.Book.{Book}
 use Rattle.book.specs.Record.{closed, ringSize, isAccepted}
 use Rattle.book.specs.Validity.{valid}
 use Rattle.book.proofs.Validities.{Valid, valid-is, is-valid}
-use Rattle.image.specs.Counted.{howMany}
-use Rattle.image.specs.Layout.{headSize, lengthOf, headFrom, imageOf}
+use Rattle.head.specs.Counted.{howMany}
+use Rattle.head.specs.Layout.{headSize, lengthOf, headFrom, imageOf}
 use Rattle.image.specs.Storing.{pricesOk, storeVerdict, stored}
 use Rattle.image.specs.Loading.{zerosOk, headVerdict, firstBad, ringOf, loadVerdict, bookFrom, ringFrom, loaded}
 

@@ -22,9 +22,10 @@ use Rattle.book.specs.declared.record.Book.{Book}
 use Rattle.book.specs.Record.{marketsOf}
 use Rattle.book.specs.Validity.{valid}
 use Rattle.book.proofs.Validities.{Valid, valid-is}
-use Rattle.image.specs.Counted.{joined, sumFrom, marketCount, countAt, oldestAt, howMany}
-use Rattle.image.specs.Layout.{words}
+use Rattle.head.specs.Counted.{joined, sumFrom, marketCount, countAt, oldestAt, howMany}
+use Rattle.head.specs.Layout.{words}
 use Rattle.image.specs.Loading.{priceAt, badIn, badFrom, ringOf, loadedWindow, windowsFrom, sumsFrom}
+use Rattle.head.proofs.Counts.{sum-none, sum-step}
 use Rattle.image.proofs.Words.{length-words, words-append}
 use Rattle.image.proofs.Readings.{placeAt}
 use Rattle.image.proofs.Markets.{region-of, count-of, place-of, prices-are}
@@ -67,25 +68,6 @@ module _ (f : ℕ → ℤ) where
   pub total-done : (n i : ℕ) (s t : ℤ) → n ≤ i → s +ℤ total (run (n - i) i f) ≡ t → s ≡ t
   unfolding total run
   total-done n i s t h e = let z : n - i ≡ 0 = omega arith in sym (+ℤ-idr s) ∙ rw z at e
-
--- ---- sums of counts
-module _ (f : ℕ → ℕ) where
-  sum-one : (n q : ℕ) → sumFrom (suc n) q f ≡ f q + sumFrom n (suc q) f
-  unfolding sumFrom
-  sum-one n q = refl
-
-  pub sum-none : (N : ℕ) → sumFrom (N - 0) 0 f ≡ sumFrom N 0 f
-  sum-none N = let m : N - 0 ≡ N = omega arith in rw m
-
-  pub sum-step : (N q : ℕ) → q < N → sumFrom (N - q) q f ≡ f q + sumFrom (N - (q + 1)) (q + 1) f
-  sum-step N q h =
-      let m : N - q ≡ suc (N - (q + 1)) = omega arith in
-      let j : q + 1 ≡ suc q = omega arith in
-      rw (m, j) (sum-one (N - suc q) q)
-
-  pub sum-done : (N q s t : ℕ) → N ≤ q → s + sumFrom (N - q) q f ≡ t → s ≡ t
-  unfolding sumFrom
-  sum-done N q s t h e = let z : N - q ≡ 0 = omega arith in let g : s + 0 ≡ t = rw z at e in omega arith
 
 -- ---- the markets of a book that rule 10 accepts
 pub record Market (b : Book) (q : ℕ) : Type 0 where

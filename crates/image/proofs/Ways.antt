@@ -22,8 +22,8 @@ use Rattle.book.specs.Validity.{valid}
 use Rattle.book.proofs.Validities.{Valid, valid-is, is-valid}
 use Rattle.book.proofs.Ways.{refusal-is}
 use Rattle.image.specs.declared.storing.Image.the-variants as image
-use Rattle.image.specs.Counted.{marketCount, counted, howMany}
-use Rattle.image.specs.Layout.{widths, headSize, lengthOf, values, words, imageOf, bookOf, headFrom}
+use Rattle.head.specs.Counted.{marketCount, counted, howMany}
+use Rattle.head.specs.Layout.{widths, headSize, lengthOf, values, words, imageOf, bookOf, headFrom}
 use Rattle.image.specs.Storing.{pricesOk, storeVerdict, stored}
 use Rattle.image.specs.Storing as store
 use Rattle.image.specs.Loading.{zerosOk, headVerdict, badFrom, firstBad, ringOf, loadVerdict, checked, windowsFrom, sumsFrom, bookFrom, ringFrom, loaded}

@@ -12,7 +12,7 @@ use mir.Val.{SFits, ofZ}
 use Rattle.laws.specs.Lists.{run}
 use Rattle.laws.specs.Bytes.{le, numberAt}
 use Rattle.laws.proofs.Bytes.{length-le, word-back, signed-there}
-use Rattle.image.specs.Layout.{words}
+use Rattle.head.specs.Layout.{words}
 use Rattle.image.specs.Loading.{priceAt}
 
 pub length-words : (zs : List ℤ) → length (words zs) ≡ 4 * length zs

@@ -1,5 +1,3 @@
-pub mod Counted
-pub mod Layout
 pub mod Storing
 pub mod Loading
 pub mod Same

@@ -17,8 +17,8 @@ use Rattle.book.specs.declared.record.Book.{Book}
 use Rattle.book.specs.Record.{closed, marketsOf, placeOf, ringSize, verdict, isAccepted}
 use Rattle.book.specs.Validity.{valid}
 use Rattle.image.specs.declared.loading.Loaded.{Loaded}
-use Rattle.image.specs.Counted.{marketCount, countAt, howMany, sumFrom}
-use Rattle.image.specs.Layout.{widths, headSize, lengthOf, bookOf, headFrom}
+use Rattle.head.specs.Counted.{marketCount, countAt, howMany, sumFrom}
+use Rattle.head.specs.Layout.{widths, headSize, lengthOf, bookOf, headFrom}
 
 -- price i of those that start at a place
 abbrev pub priceAt : List ℕ → ℕ → ℕ → ℤ

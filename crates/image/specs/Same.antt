@@ -4,7 +4,7 @@ use mathlib.Core.List.{List}
 use Prim.Native.Nat.{ℕ, _<_}
 use lib.IntN.{ℤ}
 use Rattle.book.specs.declared.record.Book.{Book}
-use Rattle.image.specs.Counted.{marketCount, inOrder}
+use Rattle.head.specs.Counted.{marketCount, inOrder}
 
 -- "Two books are the same if they differ only in where a window starts in its ring and in places that hold no counted
 -- price": every field but the next places, and the counted prices of every market, oldest first, are equal

@@ -16,8 +16,8 @@ use Rattle.book.specs.Validity.{valid}
 use Rattle.image.specs.declared.storing.Image.{Image}
 use Rattle.image.specs.declared.storing.Image.the-variants.{Length, Refused}
 use Rattle.image.specs.declared.storing.Stored.{Stored}
-use Rattle.image.specs.Counted.{wrap, windowOf, countAt, oldestAt, marketCount}
-use Rattle.image.specs.Layout.{lengthOf, imageOf}
+use Rattle.head.specs.Counted.{wrap, windowOf, countAt, oldestAt, marketCount}
+use Rattle.head.specs.Layout.{lengthOf, imageOf}
 
 -- the counted prices of a window are in their market's range, and `sum` is their total
 abbrev pub windowOk : List ℤ → ℕ → ℕ → ℕ → ℕ → ℕ → ℤ → Bool

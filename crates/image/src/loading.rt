@@ -1,17 +1,17 @@
 // Loading a book from an image, and the image check.
-use crate::counted::how_many;
-use crate::layout::get_u8;
-use crate::layout::get_u16;
-use crate::layout::get_u32;
-use crate::layout::head_from;
-use crate::layout::image_length;
 use book::opening::ring_size;
 use book::record::Answer;
 use book::record::Book;
 use book::record::Refusal;
 use book::record::closed;
 use book::validity::valid;
+use codec::get_u8;
+use codec::get_u16;
+use codec::get_u32;
 use codec::get_word;
+use head::counted::how_many;
+use head::layout::head_from;
+use head::layout::image_length;
 use pricing::holding::in_range;
 ghost use mathlib.Core.Path.{_≡_};
 ghost use mathlib.Core.Bool.{true, not};
@@ -23,7 +23,7 @@ ghost use Rattle.laws.specs.Lists.{tabulate, allBelow, firstOf, total};
 ghost use Rattle.pricing.specs.Holding.{isEnergy, inRange};
 ghost use Rattle.book.specs.Record.{verdictOf, verdict};
 ghost use Rattle.book.specs.Validity.{valid};
-ghost use Rattle.image.specs.Counted.{marketCount, howMany};
+ghost use Rattle.head.specs.Counted.{marketCount, howMany};
 ghost use Rattle.image.specs.Loading.{priceAt, headVerdict, badFrom, ringOf, loadVerdict, checked, loadedWindow, windowsFrom, sumsFrom, outcome, loaded};
 
 pub struct Loaded {

@@ -1,14 +1,13 @@
 // Storing a book as an image.
-use crate::counted::before_end;
-use crate::counted::oldest;
-use crate::layout::image_length;
-use crate::layout::put_head;
 use book::opening::ring_size;
 use book::record::Answer;
 use book::record::Book;
 use book::record::Refusal;
 use book::validity::valid;
 use codec::put_word;
+use head::counted::oldest;
+use head::layout::image_length;
+use head::layout::put_head;
 use pricing::holding::in_range;
 ghost use mathlib.Core.Path.{_≡_};
 ghost use mathlib.Core.Bool.{true};
@@ -20,11 +19,11 @@ ghost use Rattle.laws.specs.Lists.{allBelow, total};
 ghost use Rattle.pricing.specs.Holding.{isEnergy, inRange};
 ghost use Rattle.book.specs.Record.{verdict};
 ghost use Rattle.book.specs.Validity.{valid};
-ghost use Rattle.image.specs.Counted.{windowOf, counted, howMany};
-ghost use Rattle.image.specs.Layout.{words};
+ghost use Rattle.head.specs.Counted.{windowOf, counted, howMany};
+ghost use Rattle.head.specs.Layout.{words};
 ghost use Rattle.image.specs.Loading.{ringOf};
 ghost use Rattle.image.specs.Storing.{windowOk, pricesOk, storeVerdict, outcome, stored};
-ghost use Rattle.image.specs.Working.{placesOf};
+ghost use Rattle.image.specs.Working.{placesOf, beforeEnd};
 
 // The image's length, or the first refusal.
 pub enum Image {
@@ -35,6 +34,15 @@ pub enum Image {
 pub struct Stored {
     pub book: Book,
     pub image: Image,
+}
+
+// How many of `count` prices of a window stand from its place `start` to its end; the others stand from its first place on.
+fn before_end(window: usize, start: usize, count: usize) -> usize
+    requires { ⌜ start ≤ window ⌝ }
+    ensures { λ r. ⌜ r ≡ beforeEnd window start count ⌝ }
+{
+    let room = window - start;
+    if count < room { count } else { room }
 }
 
 // `count` prices from place `from` of the ring on, put into `buffer` from `at`.

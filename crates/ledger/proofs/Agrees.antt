@@ -18,7 +18,7 @@ use Rattle.book.specs.Record.{marketsOf, placeOf}
 use Rattle.book.specs.Validity.{usedPlace, valid}
 use Rattle.book.specs.Setting.{withSettings}
 use Rattle.book.proofs.Validities.{valid-is}
-use Rattle.image.specs.Counted.{inOrder}
+use Rattle.head.specs.Counted.{inOrder}
 use Rattle.publishing.specs.declared.Terms.{Terms}
 use Rattle.publishing.specs.Entry.{Entry}
 use Rattle.entries.specs.Checking.{Shape}

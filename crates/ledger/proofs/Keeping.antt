@@ -22,7 +22,7 @@ use Rattle.book.specs.Validity.{usedPlace, valid}
 use Rattle.book.specs.Opening.{fresh}
 use Rattle.book.specs.Setting.{withSettings}
 use Rattle.book.proofs.Validities.{Valid, valid-is, is-valid}
-use Rattle.image.specs.Counted.{inOrder}
+use Rattle.head.specs.Counted.{inOrder}
 use Rattle.image.specs.Storing.{pricesOk}
 use Rattle.publishing.specs.Entry.{Entry}
 use Rattle.entries.specs.Windows.{unmarked, joining, countsAfter, nextsAfter, sumsAfter, ringAfter}

@@ -17,7 +17,7 @@ use Rattle.pricing.specs.Holding.{isEnergy, lowest, inRange}
 use Rattle.book.specs.declared.record.Book.{Book}
 use Rattle.book.specs.Record.{marketsOf, placeOf}
 use Rattle.laws.proofs.Lists.{all-at, at-all}
-use Rattle.image.specs.Counted.{wrap, windowOf, inOrder, countAt, oldestAt, marketCount}
+use Rattle.head.specs.Counted.{wrap, windowOf, inOrder, countAt, oldestAt, marketCount}
 use Rattle.image.specs.Storing.{windowOk, marketOk, pricesOk}
 use Rattle.ledger.proofs.Joining.{Every}
 use Rattle.ledger.proofs.Sounds.{marketAt}

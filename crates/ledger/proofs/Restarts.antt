@@ -18,8 +18,8 @@ use Rattle.book.specs.declared.record.Book.{Book}
 use Rattle.book.specs.Record.{closed, marketsOf, placeOf, ringSize, isAccepted}
 use Rattle.book.specs.Validity.{valid}
 use Rattle.book.proofs.Validities.{Valid, valid-is}
-use Rattle.image.specs.Counted.{sumFrom, inOrder, howMany}
-use Rattle.image.specs.Layout.{lengthOf}
+use Rattle.head.specs.Counted.{sumFrom, inOrder, howMany}
+use Rattle.head.specs.Layout.{lengthOf}
 use Rattle.image.specs.Storing as Storing
 use Rattle.image.specs.Storing.{pricesOk, storeVerdict, stored}
 use Rattle.image.specs.Loading as Loading

@@ -27,8 +27,8 @@ use Rattle.publishing.specs.Effective.{scheduled, effective}
 use Rattle.publishing.specs.Capped.{anyAdministered, cappedBy}
 use Rattle.publishing.specs.Bounds.{hasLimit, limit, atMost, atLeast}
 use Rattle.publishing.specs.Published.{published}
-use Rattle.image.specs.Counted.{joined, sumFrom}
-use Rattle.image.specs.Layout.{widths, firsts, seconds, values, words, imageOf, bookOf}
+use Rattle.head.specs.Counted.{joined, sumFrom}
+use Rattle.head.specs.Layout.{widths, firsts, seconds, values, words, imageOf, bookOf}
 use Rattle.image.specs.Storing.{storeVerdict, stored}
 use Rattle.image.specs.Loading.{headVerdict, badFrom, loadVerdict, windowsFrom, sumsFrom, bookFrom, ringFrom, loaded}
 use Rattle.entries.specs.Checking.{entryVerdict}

@@ -18,7 +18,7 @@ use Rattle.book.specs.Record.{marketsOf, placeOf, isAccepted}
 use Rattle.book.specs.Validity.{usedPlace, valid}
 use Rattle.book.specs.Setting as Setting
 use Rattle.book.specs.Setting.{thresholdVerdict, limitsVerdict, withSettings, changed, setThreshold, setLimits}
-use Rattle.image.specs.Counted.{inOrder, marketCount}
+use Rattle.head.specs.Counted.{inOrder, marketCount}
 use Rattle.image.specs.Same.{Same}
 use Rattle.image.proofs.Sameness.{withNexts, same-book}
 use Rattle.publishing.specs.Entry.{Entry}

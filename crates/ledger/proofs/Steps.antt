@@ -16,7 +16,7 @@ use Rattle.laws.proofs.Tests.{by-test}
 use Rattle.book.specs.declared.record.Book.{Book}
 use Rattle.book.specs.Record.{marketsOf, placeOf}
 use Rattle.book.specs.Validity.{usedPlace}
-use Rattle.image.specs.Counted.{inOrder}
+use Rattle.head.specs.Counted.{inOrder}
 use Rattle.publishing.specs.Entry.{Offer, Entry}
 use Rattle.entries.specs.Windows.{unmarked, joins, joining, leaving, sumAfter, sumsAfter, grown, countsAfter, following, nextsAfter, written, ringAfter}
 use Rattle.entries.specs.Periods.{markAfter, lastOfDay, positionAfter}

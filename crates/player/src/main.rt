@@ -1,7 +1,7 @@
 // Reads a list of calls from standard input and writes the answers: this file only moves bytes, `replay` says what they are.
 use book::opening::ring_size;
-use image::layout::get_u8;
-use image::layout::get_u16;
+use codec::get_u8;
+use codec::get_u16;
 use libc::STDIN_FILENO;
 use libc::STDOUT_FILENO;
 use records::reading::opens;

@@ -12,7 +12,7 @@ use Rattle.laws.specs.Bytes.{le}
 use Rattle.laws.proofs.Bytes.{sets-append, length-le}
 use Rattle.pricing.specs.Verdict.{Verdict}
 use Rattle.book.specs.Report.{Numbers}
-use Rattle.image.specs.Layout.{words}
+use Rattle.head.specs.Layout.{words}
 use Rattle.image.proofs.Words.{length-words}
 use Rattle.records.specs.Writing.{headOf, entryRecord, valuesOf, reportRecord}
 

@@ -8,7 +8,7 @@ use mir.Val.{ofZ}
 use Rattle.laws.specs.Bytes.{le}
 use Rattle.pricing.specs.Verdict.{Verdict}
 use Rattle.book.specs.Report.{Numbers}
-use Rattle.image.specs.Layout.{words}
+use Rattle.head.specs.Layout.{words}
 
 -- "an answer record: length(4), the call's kind(2), number(4), place(4) (0, 0 when accepted)"
 unfoldable pub headOf : ℕ → ℕ → Verdict → List ℕ

@@ -1,11 +1,11 @@
 // Records of calls, read from bytes.
 use book::record::Settings;
 use codec::get;
+use codec::get_u8;
+use codec::get_u16;
+use codec::get_u32;
 use codec::get_word;
 use codec::signed64;
-use image::layout::get_u8;
-use image::layout::get_u16;
-use image::layout::get_u32;
 ghost use mathlib.Core.Path.{_≡_};
 ghost use mathlib.Core.Bool.{true};
 ghost use Prim.Native.Nat.{_+_, _-_, _*_, _≤_};

@@ -13,7 +13,7 @@ ghost use lib.ListN.{length};
 ghost use lib.Seq.{sets};
 ghost use Rattle.book.specs.Record.{verdictOf, verdict};
 ghost use Rattle.book.specs.Report.{numbers};
-ghost use Rattle.image.specs.Layout.{words};
+ghost use Rattle.head.specs.Layout.{words};
 ghost use Rattle.entries.specs.Entering as Entering;
 ghost use Rattle.records.specs.Writing.{headOf, entryRecord, reportRecord};
 

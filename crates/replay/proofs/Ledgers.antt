@@ -25,7 +25,7 @@ use Rattle.ledger.proofs.Checks.{never, passes, entered-accepted, entered-refus
 use Rattle.book.specs.Setting as Setting
 use Rattle.book.specs.Report as Report
 use Rattle.entries.specs.Entering as Entering
-use Rattle.image.specs.Layout.{lengthOf, imageOf}
+use Rattle.head.specs.Layout.{lengthOf, imageOf}
 use Rattle.image.specs.Storing as Storing
 use Rattle.image.specs.Loading as Loading
 use Rattle.image.proofs.Typed.{Typed}

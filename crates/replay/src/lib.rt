@@ -2,8 +2,8 @@
 use book::opening::open;
 use book::opening::ring_size;
 use book::record::Book;
-use image::layout::get_u8;
-use image::layout::get_u16;
+use codec::get_u8;
+use codec::get_u16;
 use playing::Played;
 use playing::play_call;
 use records::reading::answer_size;

@@ -11,9 +11,9 @@ use Rattle.laws.specs.Bytes.{numberAt, sizeOf}
 use Rattle.book.specs.declared.record.Book.{Book}
 use Rattle.book.specs.Record.{ringSize}
 use Rattle.image.specs.declared.loading.Loaded.{Loaded}
-use Rattle.image.specs.Layout.{widths, headSize, bookOf, headFrom}
+use Rattle.head.specs.Layout.{widths, headSize, bookOf, headFrom}
 use Rattle.image.specs.Loading.{ringOf, loadVerdict, checked, bookFrom, Outcome, outcome, loaded}
-use Rattle.image.proofs.Heads.{field-at}
+use Rattle.head.proofs.Heads.{field-at}
 use Rattle.image.proofs.Verdicts.{LoadOk, load-ok, ok-loaded}
 
 -- R, S and W of the head are bytes 6, 7 and 8 to 9

@@ -11,8 +11,8 @@ use lib.ListN.{length, getD, drop, length-append}
 use Rattle.laws.proofs.Lists.{flat-place}
 use Rattle.amount.specs.Text.{paste}
 use Rattle.book.specs.declared.record.Book.{Book}
-use Rattle.image.specs.Counted.{joined, marketCount}
-use Rattle.image.specs.Layout.{headFrom}
+use Rattle.head.specs.Counted.{joined, marketCount}
+use Rattle.head.specs.Layout.{headFrom}
 use Rattle.image.specs.Loading.{ringOf, checked, bookFrom}
 use Rattle.sheet.specs.Put.{Put}
 use Rattle.sheet.specs.Sheet.{header, lineOf, line, lines, refusedText, sheetOf}

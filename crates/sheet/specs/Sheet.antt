@@ -9,8 +9,8 @@ use Rattle.laws.specs.Base.{pick}
 use Rattle.amount.specs.Text.{decimal, amountText}
 use Rattle.book.specs.declared.record.Book.{Book}
 use Rattle.book.specs.Record.{marketsOf, placeOf}
-use Rattle.image.specs.Counted.{joined, marketCount, countAt}
-use Rattle.image.specs.Layout.{headFrom}
+use Rattle.head.specs.Counted.{joined, marketCount, countAt}
+use Rattle.head.specs.Layout.{headFrom}
 use Rattle.image.specs.Loading.{ringOf, checked, bookFrom}
 
 -- "region,market,counted,sum,administered", and byte 10

@@ -13,7 +13,7 @@ ghost use mathlib.Core.Path.{_≡_};
 ghost use Prim.Native.Nat.{_≤_};
 ghost use lib.ListN.{length};
 ghost use Rattle.amount.specs.Text.{paste};
-ghost use Rattle.image.specs.Layout.{headFrom};
+ghost use Rattle.head.specs.Layout.{headFrom};
 ghost use Rattle.image.specs.Loading.{ringOf, checked, bookFrom};
 ghost use Rattle.sheet.specs.Put.{Put};
 ghost use Rattle.sheet.specs.Sheet.{header, lines, sheetOf};

@@ -6,7 +6,7 @@ use lib.ListN.{length}
 use borrow.Author.Tests.{not-true, not-false}
 use Rattle.laws.specs.Bytes.{numberAt}
 use Rattle.book.specs.Validity.{valid}
-use Rattle.image.specs.Layout.{lengthOf, headFrom}
+use Rattle.head.specs.Layout.{lengthOf, headFrom}
 use Rattle.image.specs.Loading.{zerosOk}
 use Rattle.image.proofs.Ways.{head-short, head-24, head-25, head-26, head-27, head-0}
 use borrow.Author.Needs.{needs}

@@ -11,7 +11,7 @@ use Rattle.laws.specs.Lists.{allBelow}
 use Rattle.laws.proofs.Lists.{allBelow-step, allBelow-none}
 use Rattle.book.specs.declared.record.Book.{Book}
 use Rattle.book.specs.Record.{marketsOf}
-use Rattle.image.specs.Counted.{marketCount, countAt}
+use Rattle.head.specs.Counted.{marketCount, countAt}
 use Rattle.image.specs.Storing.{marketOk, windowOk}
 use Rattle.image.proofs.Readings.{placeAt}
 use Rattle.image.proofs.Walks.{few, Market, market}

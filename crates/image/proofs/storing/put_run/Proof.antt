@@ -7,7 +7,7 @@ use lib.ListN.{length, getD}
 use lib.Seq.{sets}
 use mir.Facts.{toZ-ofZ}
 use Rattle.laws.specs.Lists.{run}
-use Rattle.image.specs.Layout.{words}
+use Rattle.head.specs.Layout.{words}
 use Rattle.image.specs.Working.{placesOf}
 use Rattle.image.proofs.Walks.{words-none, words-step, words-done}
 use borrow.Author.Needs.{sfits-of}

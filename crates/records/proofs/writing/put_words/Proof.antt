@@ -10,9 +10,9 @@ use mir.Syntax.{w32}
 use mir.Val.{SFits}
 use mir.Facts.{toZ-ofZ}
 use Rattle.laws.specs.Lists.{run, tabulate}
-use Rattle.image.specs.Layout.{words}
+use Rattle.head.specs.Layout.{words}
 use Rattle.image.proofs.Walks.{words-none, words-step, words-done}
-use Rattle.image.proofs.Lists.{tabulate-list}
+use Rattle.head.proofs.Lists.{tabulate-list}
 use borrow.Author.Needs.{needs}
 use Rattle.records.proofs.writing.put_words.Statement.{statement}
 use Rattle.records.proofs.writing.put_words.Tie as tie

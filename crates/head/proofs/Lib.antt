@@ -1,0 +1,4 @@
+pub mod Lists
+pub mod Counts
+pub mod Heads
+pub mod Rows

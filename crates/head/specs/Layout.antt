@@ -1,0 +1,89 @@
+-- The layout of an image: a table of fields, and the book that the fields say. Assumes nothing.
+use mathlib.Core.List.{List, [], _∷_, _++_}
+use mathlib.Core.Path.{_≡_, refl}
+use Prim.Native.Nat.{ℕ, _+_, _*_}
+use lib.Dec.{ltb}
+use lib.IntN.{ℤ, pos}
+use lib.ListN.{getD, take, drop, replicate}
+use mir.Syntax.{w32, w64}
+use mir.Val.{ofZ, toZ}
+use Rattle.laws.specs.Base.{pick}
+use Rattle.laws.specs.Lists.{tabulate}
+use Rattle.laws.specs.Bytes.{le, encode, decode}
+use Rattle.book.specs.declared.record.Book.{Book}
+use Rattle.head.specs.Counted.{counted, howMany}
+
+-- "0: length, 4 bytes. 4: kind 1, 2 bytes. 6: R. 7: S. 8: W, 2 bytes. 10: H. 11: zero. 12: parents. 20: entries taken,
+-- 4 bytes. 24: the next entry's position, 2 bytes; 26: two zeros. 28: threshold, 8 bytes. 36: cap. 40: floor, 4 bytes each.
+-- 44: eight 2-byte counts of prices. 60: 88 period bytes": the width of each field in order
+unfoldable pub widths : List ℕ
+widths = (4 ∷ 2 ∷ 1 ∷ 1 ∷ 2 ∷ 1 ∷ 1 ∷ []) ++ (replicate 8 1 ++ ((4 ∷ 2 ∷ 2 ∷ 8 ∷ 4 ∷ 4 ∷ []) ++ (replicate 8 2 ++ replicate 88 1)))
+
+-- the place of each field, added up from the widths
+abbrev pub placesFrom : ℕ → List ℕ → List ℕ
+placesFrom at [] = []
+placesFrom at (w ∷ ws) = at ∷ placesFrom (at + w) ws
+
+-- they are the paper's places; counts and periods by their first ones
+places-are : take 22 (placesFrom 0 widths) ≡ 0 ∷ 4 ∷ 6 ∷ 7 ∷ 8 ∷ 10 ∷ 11 ∷ 12 ∷ 13 ∷ 14 ∷ 15 ∷ 16 ∷ 17 ∷ 18 ∷ 19 ∷ 20 ∷ 24 ∷ 26 ∷ 28 ∷ 36 ∷ 40 ∷ 44 ∷ []
+unfolding widths
+places-are = refl
+
+period-place : getD (placesFrom 0 widths) 29 0 ≡ 60
+unfolding widths
+period-place = refl
+
+-- "148: for each region and market its counted prices"
+abbrev pub headSize : ℕ
+headSize = 148
+
+-- "Length = 148 + 4 × M × (sum of counts)"
+abbrev pub lengthOf : Book → ℕ
+lengthOf b = headSize + 4 * howMany b
+
+-- the number in each field, of an image of n bytes; cap, floor and threshold by two's complement
+unfoldable pub firsts : ℕ → Book → List ℕ
+firsts n b = n ∷ 1 ∷ b .regions ∷ b .services ∷ b .window ∷ b .halves ∷ 0 ∷ []
+
+unfoldable pub seconds : Book → List ℕ
+seconds b = b .entries ∷ b .position ∷ 0 ∷ ofZ w64 (b .threshold) ∷ ofZ w32 (b .cap) ∷ ofZ w32 (b .floor) ∷ []
+
+unfoldable pub values : ℕ → Book → List ℕ
+values n b = firsts n b ++ (b .parents ++ (seconds b ++ (b .counts ++ b .marks)))
+
+-- prices, "4 bytes each"
+unfoldable pub words : List ℤ → List ℕ
+words [] = []
+words (z ∷ zs) = le 4 (ofZ w32 z) ++ words zs
+
+-- the whole image of a book and its ring
+unfoldable pub imageOf : Book → List ℤ → List ℕ
+imageOf b ring = encode widths (values (lengthOf b) b) ++ words (counted b ring)
+
+-- ---- read back
+-- "Loading puts the oldest at the window's first place": the next place of a window with so many prices
+abbrev pub nextOf : ℕ → ℕ → ℕ
+nextOf w count = pick (ltb count w) count 0
+
+-- the book that the numbers of the fields say, with these sums
+unfoldable pub bookOf : List ℕ → List ℤ → Book
+bookOf vs sums = record {
+  regions = getD vs 2 0;
+  services = getD vs 3 0;
+  window = getD vs 4 0;
+  halves = getD vs 5 0;
+  parents = take 8 (drop 7 vs);
+  threshold = toZ w64 (getD vs 18 0);
+  cap = toZ w32 (getD vs 19 0);
+  floor = toZ w32 (getD vs 20 0);
+  entries = getD vs 15 0;
+  position = getD vs 16 0;
+  counts = take 8 (drop 21 vs);
+  nexts = tabulate 8 (λ r. nextOf (getD vs 4 0) (getD (take 8 (drop 21 vs)) r 0));
+  sums = sums;
+  marks = take 88 (drop 29 vs);
+}
+
+-- the book of an image's head, before its sums are added up
+abbrev pub headFrom : List ℕ → Book
+headFrom bytes = bookOf (decode widths bytes) (replicate 88 (pos 0))
