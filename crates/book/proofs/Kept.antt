@@ -10,7 +10,7 @@ use borrow.Author.Tests.{eqb-true}
 use lib.IntN.{ℤ, pos}
 use lib.ListN.{length, replicate, getD, getD-replicate}
 use Rattle.laws.specs.Base.{pick}
-use Rattle.laws.proofs.Tests.{and-left, and-right, by-test}
+use Rattle.laws.proofs.Tests.{and-left, and-right, by-test, never}
 use Rattle.pricing.specs.Verdict.{Verdict, accepted, refused}
 use Rattle.pricing.specs.Holding.{limitsOk}
 use Rattle.book.specs.declared.record.Book.{Book}
@@ -23,15 +23,7 @@ use Rattle.book.specs.Report.{reportOf, reported}
 use Rattle.laws.proofs.Lists.{all-at}
 use Rattle.book.proofs.Validities.{parts, shape-is, parent-is, Valid, is-valid}
 use Rattle.book.proofs.Ways.{settingsOk, ringOk}
-
--- a test that is both true and false
-never {ℓ} : {X : Type ℓ} (t : Bool) → t ≡ true → t ≡ false → X
-never t p q = let z : _≡_ {A = ℕ} 0 1 = cc in absurd (omega arith)
-
--- what is accepted has passed the test before it
-passes : (t : Bool) (n : ℕ) (v : Verdict) → isAccepted (refused n) ≡ false → isAccepted (pick (not t) (refused n) v) ≡ true → (t ≡ true) × (isAccepted v ≡ true)
-passes true n v z e = (refl, e)
-passes false n v z e = never (isAccepted (refused n)) e z
+use Rattle.book.proofs.Passes.{passes-not}
 
 -- ---- rule 10 and the closed book
 pub closed-invalid : valid closed ≡ false
@@ -46,10 +38,10 @@ module _ (s : Settings) (n : ℕ) (e : isAccepted (openVerdict s n) ≡ true) wh
   pub accepts : (settingsOk s ≡ true) × (n ≡ ringSize (s .regions) (s .services) (s .window)) × (thresholdOk (s .threshold) ≡ true) × (limitsOk (s .cap) (s .floor) ≡ true)
   unfolding openVerdict
   accepts =
-      let p = passes (settingsOk s) 20 _ refl e in
-      let q = passes (ringOk s n) 11 _ refl (p .1) in
-      let t = passes (thresholdOk (s .threshold)) 18 _ refl (q .1) in
-      let u = passes (limitsOk (s .cap) (s .floor)) 19 _ refl (t .1) in
+      let p = passes-not (settingsOk s) (refused 20) _ refl e in
+      let q = passes-not (ringOk s n) (refused 11) _ refl (p .1) in
+      let t = passes-not (thresholdOk (s .threshold)) (refused 18) _ refl (q .1) in
+      let u = passes-not (limitsOk (s .cap) (s .floor)) (refused 19) _ refl (t .1) in
       (p .0, eqb-true _ _ (q .0), t .0, u .0)
 
   shape : shapeOk (s .regions) (s .services) (s .window) (s .halves) (s .first) ≡ true
@@ -138,12 +130,12 @@ module _ (b : Book) (v : Verdict) (threshold cap floor : ℤ) where
 pub threshold-sets : (b : Book) (threshold : ℤ) → Sets b (withSettings b threshold (b .cap) (b .floor)) (setThreshold b threshold)
 unfolding setThreshold thresholdVerdict
 threshold-sets b threshold =
-    sets b (thresholdVerdict threshold) threshold (b .cap) (b .floor) (λ ok e. (passes (thresholdOk threshold) 18 accepted refl e .0, parts b ok .3))
+    sets b (thresholdVerdict threshold) threshold (b .cap) (b .floor) (λ ok e. (passes-not (thresholdOk threshold) (refused 18) accepted refl e .0, parts b ok .3))
 
 pub limits-sets : (b : Book) (cap floor : ℤ) → Sets b (withSettings b (b .threshold) cap floor) (setLimits b cap floor)
 unfolding setLimits limitsVerdict
 limits-sets b cap floor =
-    sets b (limitsVerdict cap floor) (b .threshold) cap floor (λ ok e. (parts b ok .2, passes (limitsOk cap floor) 19 accepted refl e .0))
+    sets b (limitsVerdict cap floor) (b .threshold) cap floor (λ ok e. (parts b ok .2, passes-not (limitsOk cap floor) (refused 19) accepted refl e .0))
 
 -- ---- report
 pub reported-back : (b : Book) (region market : ℕ) → reported b region market .book ≡ b

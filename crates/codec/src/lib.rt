@@ -1,11 +1,12 @@
 // Little-endian numbers in byte slices, for every width up to eight bytes, and signed numbers by two's complement.
 ghost use mathlib.Core.Path.{_≡_};
-ghost use Prim.Native.Nat.{_+_, _≤_, _<_};
+ghost use Prim.Native.Nat.{_+_, _*_, _≤_, _<_};
 ghost use lib.ListN.{length};
 ghost use lib.Seq.{sets};
 ghost use mir.Syntax.{w32, w64};
 ghost use mir.Val.{ofZ, toZ};
 ghost use Rattle.laws.specs.Bytes.{le, numberAt};
+ghost use Rattle.laws.specs.Lists.{tabulate};
 
 // The number in `width` bytes from a place.
 pub fn get(bytes: &[u8], at: usize, width: usize) -> u64
@@ -42,6 +43,20 @@ pub fn get_u32(bytes: &[u8], at: usize) -> u32
     ensures { λ r. ⌜ r ≡ numberAt (now (bytes .entry)) at 4 ⌝ }
 {
     get(bytes, at, 4) as u32
+}
+
+// Eight bytes from a place: a book's parents, wherever they stand.
+pub fn get_eight(bytes: &[u8], at: usize) -> [u8; 8]
+    requires { ⌜ at + 8 ≤ length (now bytes) ⌝ }
+    ensures { λ r. ⌜ r ≡ tabulate 8 (λ i. numberAt (now (bytes .entry)) (at + i) 1) ⌝ }
+{
+    let mut all = [0u8; 8];
+    let mut i: usize = 0;
+    while i < 8 {
+        all[i] = get_u8(bytes, at + i);
+        i += 1;
+    }
+    all
 }
 
 // A number's lowest `width` bytes put at a place.
@@ -109,6 +124,19 @@ pub fn get_word(bytes: &[u8], at: usize) -> i32
     let b2 = bytes[at + 2] as u32;
     let b3 = bytes[at + 3] as u32;
     signed32(b0 + 256 * b1 + 65536 * b2 + 16777216 * b3)
+}
+
+// `n` signed numbers from `at`, four bytes each, put into `numbers` from `to`.
+pub fn get_words(bytes: &[u8], at: usize, n: usize, numbers: &mut [i32], to: usize)
+    requires { ⌜ (at + 4 * n ≤ length (now bytes)) × (to + n ≤ length (now numbers)) ⌝ }
+    ensures { λ _. ⌜ now (numbers .exit) ≡ sets (now (numbers .entry)) to (tabulate n (λ i. toZ w32 (numberAt (now (bytes .entry)) (at + 4 * i) 4))) ⌝ }
+{
+    let mut i: usize = 0;
+    while i < n {
+        let word = get_word(bytes, at + 4 * i);
+        numbers[to + i] = word;
+        i += 1;
+    }
 }
 
 // A signed number put into four bytes at a place.

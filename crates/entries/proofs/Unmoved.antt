@@ -6,7 +6,7 @@ use mathlib.Core.List.{List}
 use Prim.Native.Nat.{ℕ}
 use lib.IntN.{ℤ}
 use lib.ListN.{length}
-use Rattle.laws.proofs.Tests.{by-test, true-is}
+use Rattle.laws.proofs.Tests.{by-test, never}
 use Rattle.pricing.specs.Verdict.{Verdict}
 use Rattle.book.specs.declared.record.Book.{Book}
 use Rattle.book.specs.Record.{isAccepted}
@@ -14,9 +14,6 @@ use Rattle.publishing.specs.Entry.{Entry}
 use Rattle.entries.specs.Entering.{enterVerdict, entered}
 use Rattle.entries.specs.Working.{Accepts, acceptance}
 use Rattle.entries.proofs.Accepted.{accepted-entry, accepted-is}
-
-never {ℓ} : {X : Type ℓ} (t : Bool) → t ≡ true → t ≡ false → X
-never t p q = absurd (true-is (sym q ∙ p))
 
 module _ (b : Book) (ring : List ℤ) (n : ℕ) (e : Entry) (table : List ℤ) where
   abbrev said : Verdict

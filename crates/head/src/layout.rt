@@ -4,6 +4,7 @@ use book::record::Book;
 use codec::bits32;
 use codec::bits64;
 use codec::get;
+use codec::get_eight;
 use codec::get_u8;
 use codec::get_u16;
 use codec::get_u32;
@@ -128,19 +129,6 @@ pub fn put_head(book: Book, size: u32, buffer: &mut [u8])
     }
 }
 
-fn read_parents(bytes: &[u8]) -> [u8; 8]
-    requires { ⌜ headSize ≤ length (now bytes) ⌝ }
-    ensures { λ r. ⌜ r ≡ tabulate 8 (λ i. numberAt (now (bytes .entry)) (12 + i) 1) ⌝ }
-{
-    let mut a = [0u8; 8];
-    let mut i: usize = 0;
-    while i < 8 {
-        a[i] = get_u8(bytes, 12 + i);
-        i += 1;
-    }
-    a
-}
-
 fn read_counts(bytes: &[u8]) -> [u16; 8]
     requires { ⌜ headSize ≤ length (now bytes) ⌝ }
     ensures { λ r. ⌜ r ≡ tabulate 8 (λ i. numberAt (now (bytes .entry)) (44 + 2 * i) 2) ⌝ }
@@ -194,7 +182,7 @@ pub fn head_from(bytes: &[u8]) -> Book
     let window = get_u16(bytes, 8);
     let counts = read_counts(bytes);
     let nexts = next_places(window, counts);
-    let parents = read_parents(bytes);
+    let parents = get_eight(bytes, 12);
     let marks = read_marks(bytes);
     Book {
         regions: get_u8(bytes, 6),

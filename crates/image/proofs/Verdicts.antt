@@ -10,7 +10,8 @@ use lib.IntN.{ℤ}
 use lib.ListN.{length, drop}
 use Rattle.laws.specs.Base.{pick}
 use Rattle.laws.specs.Bytes.{numberAt}
-use Rattle.laws.proofs.Tests.{and-left, and-right, by-test}
+use Rattle.laws.proofs.Tests.{and-left, and-right, by-test, never}
+use Rattle.book.proofs.Passes.{passes, passes-not}
 use Rattle.pricing.specs.Verdict.{Verdict, accepted, refused, refusedAt}
 use Rattle.book.specs.declared.record.Book.{Book}
 use Rattle.book.specs.Record.{closed, ringSize, isAccepted}
@@ -20,18 +21,6 @@ use Rattle.head.specs.Counted.{howMany}
 use Rattle.head.specs.Layout.{headSize, lengthOf, headFrom, imageOf}
 use Rattle.image.specs.Storing.{pricesOk, storeVerdict, stored}
 use Rattle.image.specs.Loading.{zerosOk, headVerdict, firstBad, ringOf, loadVerdict, bookFrom, ringFrom, loaded}
-
-never {ℓ} : {X : Type ℓ} {t : Bool} → t ≡ true → t ≡ false → X
-never {t = t} p q = let z : _≡_ {A = ℕ} 0 1 = cc in absurd (omega arith)
-
--- a choice that is accepted passed its test
-passes : (t : Bool) (r v : Verdict) → isAccepted r ≡ false → isAccepted (pick (not t) r v) ≡ true → (t ≡ true) × (isAccepted v ≡ true)
-passes true r v z e = (refl, e)
-passes false r v z e = never e z
-
-fails : (t : Bool) (r v : Verdict) → isAccepted r ≡ false → isAccepted (pick t r v) ≡ true → (t ≡ false) × (isAccepted v ≡ true)
-fails false r v z e = (refl, e)
-fails true r v z e = never e z
 
 -- ---- the head of an image
 pub record HeadOk (l : List ℕ) : Type 0 where
@@ -47,11 +36,11 @@ module _ (l : List ℕ) where
   pub head-ok : isAccepted (headVerdict l) ≡ true → HeadOk l
   unfolding headVerdict
   head-ok e =
-      let a = fails (ltb (length l) headSize) (refused 24) _ refl e in
-      let b = passes (eqb (numberAt l 0 4) (length l)) (refused 24) _ refl (a .1) in
-      let c = passes (eqb (numberAt l 4 2) 1) (refused 25) _ refl (b .1) in
-      let d = passes (zerosOk l && valid (headFrom l)) (refused 26) _ refl (c .1) in
-      let f = passes (eqb (length l) (lengthOf (headFrom l))) (refused 27) _ refl (d .1) in
+      let a = passes (ltb (length l) headSize) (refused 24) _ refl e in
+      let b = passes-not (eqb (numberAt l 0 4) (length l)) (refused 24) _ refl (a .1) in
+      let c = passes-not (eqb (numberAt l 4 2) 1) (refused 25) _ refl (b .1) in
+      let d = passes-not (zerosOk l && valid (headFrom l)) (refused 26) _ refl (c .1) in
+      let f = passes-not (eqb (length l) (lengthOf (headFrom l))) (refused 27) _ refl (d .1) in
       let z = and-left (zerosOk l) (valid (headFrom l)) (d .0) in
       record {
         long = ltb-false (length l) headSize (a .0);
@@ -87,10 +76,10 @@ module _ (l : List ℕ) (n : ℕ) where
   unfolding loadVerdict
   load-ok e =
       by-test (isAccepted (headVerdict l))
-      (λ h. let a = passes (eqb n (ringOf (headFrom l))) (refused 11) _ refl (rw h at e) in
-      let b = fails (ltb (firstBad l) (howMany (headFrom l))) (refusedAt 16 (firstBad l)) _ refl (a .1) in
+      (λ h. let a = passes-not (eqb n (ringOf (headFrom l))) (refused 11) _ refl (rw h at e) in
+      let b = passes (ltb (firstBad l) (howMany (headFrom l))) (refusedAt 16 (firstBad l)) _ refl (a .1) in
       record { head = head-ok l h; ring = eqb-true n (ringOf (headFrom l)) (a .0); good = ltb-false (firstBad l) (howMany (headFrom l)) (b .0) })
-      (λ h. never (rw h at e) h)
+      (λ h. never _ (rw h at e) h)
 
   pub ok-load : LoadOk l n → loadVerdict l n ≡ accepted
   unfolding loadVerdict
@@ -99,7 +88,7 @@ module _ (l : List ℕ) (n : ℕ) where
 module _ (l : List ℕ) (ring : List ℤ) where
   pub loaded-ok : isAccepted (loaded l ring .verdict) ≡ true → LoadOk l (length ring)
   unfolding loaded
-  loaded-ok e = by-test (isAccepted (loadVerdict l (length ring))) (λ h. load-ok l (length ring) h) (λ h. never (rw h at e) h)
+  loaded-ok e = by-test (isAccepted (loadVerdict l (length ring))) (λ h. load-ok l (length ring) h) (λ h. never _ (rw h at e) h)
 
   pub ok-loaded : LoadOk l (length ring) → loaded l ring ≡ record { verdict = accepted; book = bookFrom l; ring = ringFrom l }
   unfolding loaded
@@ -121,10 +110,10 @@ module _ (b : Book) (ring : List ℤ) (n : ℕ) where
   pub store-ok : isAccepted (storeVerdict b ring n) ≡ true → StoreOk b ring n
   unfolding storeVerdict
   store-ok e =
-      let p = passes (valid b) (refused 10) _ refl e in
-      let q = passes (eqb (length ring) (ringSize (b .regions) (b .services) (b .window))) (refused 11) _ refl (p .1) in
-      let r = passes (pricesOk b ring) (refused 22) _ refl (q .1) in
-      let s = fails (ltb n (lengthOf b)) (refused 23) _ refl (r .1) in
+      let p = passes-not (valid b) (refused 10) _ refl e in
+      let q = passes-not (eqb (length ring) (ringSize (b .regions) (b .services) (b .window))) (refused 11) _ refl (p .1) in
+      let r = passes-not (pricesOk b ring) (refused 22) _ refl (q .1) in
+      let s = passes (ltb n (lengthOf b)) (refused 23) _ refl (r .1) in
       record {
         book = valid-is b (p .0);
         ring-size = eqb-true (length ring) (ringSize (b .regions) (b .services) (b .window)) (q .0);
@@ -140,7 +129,7 @@ module _ (b : Book) (ring : List ℤ) (n : ℕ) where
 module _ (b : Book) (ring : List ℤ) (buffer : List ℕ) where
   pub stored-ok : isAccepted (stored b ring buffer .verdict) ≡ true → StoreOk b ring (length buffer)
   unfolding stored
-  stored-ok e = by-test (isAccepted (storeVerdict b ring (length buffer))) (λ h. store-ok b ring (length buffer) h) (λ h. never (rw h at e) h)
+  stored-ok e = by-test (isAccepted (storeVerdict b ring (length buffer))) (λ h. store-ok b ring (length buffer) h) (λ h. never _ (rw h at e) h)
 
   pub ok-stored : StoreOk b ring (length buffer)
       → stored b ring buffer ≡ record { verdict = accepted; length = lengthOf b; book = b; buffer = imageOf b ring ++ drop (lengthOf b) buffer }

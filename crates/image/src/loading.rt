@@ -9,6 +9,7 @@ use codec::get_u8;
 use codec::get_u16;
 use codec::get_u32;
 use codec::get_word;
+use codec::get_words;
 use head::counted::how_many;
 use head::layout::head_from;
 use head::layout::image_length;
@@ -29,19 +30,6 @@ ghost use Rattle.image.specs.Loading.{priceAt, headVerdict, badFrom, rin
 pub struct Loaded {
     pub book: Book,
     pub answer: Answer,
-}
-
-// `count` prices from `from`, put into the ring from `base` on.
-fn load_run(bytes: &[u8], from: usize, count: usize, ring: &mut [i32], base: usize)
-    requires { ⌜ (base + count ≤ length (now ring)) × (from + 4 * count ≤ length (now bytes)) ⌝ }
-    ensures { λ _. ⌜ now (ring .exit) ≡ sets (now (ring .entry)) base (tabulate count (priceAt (now (bytes .entry)) from)) ⌝ }
-{
-    let mut i: usize = 0;
-    while i < count {
-        let price = get_word(bytes, from + 4 * i);
-        ring[base + i] = price;
-        i += 1;
-    }
 }
 
 // Zeros at `count` places of the ring from `base` on.
@@ -68,7 +56,7 @@ fn load_window(
     requires { ⌜ (count ≤ window) × (base + window ≤ length (now ring)) × (from + 4 * count ≤ length (now bytes)) ⌝ }
     ensures { λ _. ⌜ now (ring .exit) ≡ sets (now (ring .entry)) base (loadedWindow (now (bytes .entry)) window count from) ⌝ }
 {
-    load_run(bytes, from, count, ring, base);
+    get_words(bytes, from, count, ring, base);
     zero_run(ring, base + count, window - count);
 }
 

@@ -1,5 +1,5 @@
 -- Tests and what they decide. Assumes nothing.
-use mathlib.Core.Path.{_≡_, refl, sym, subst}
+use mathlib.Core.Path.{_≡_, refl, sym, subst, _∙_}
 use mathlib.Core.Bool.{Bool, true, false, not, _&&_, _||_}
 use mathlib.Core.Logic.{_⊎_, inl, inr}
 use Prim.Native.Nat.{ℕ, _<_, _≤_}
@@ -12,6 +12,10 @@ is-true false h = absurd h
 
 pub true-is : {t : Bool} → t ≡ true → T t
 true-is e = subst T (sym e) tt
+
+-- no test both holds and fails
+pub never {ℓ} : {X : Type ℓ} (t : Bool) → t ≡ true → t ≡ false → X
+never t p q = absurd (true-is (sym q ∙ p))
 
 -- both parts of a test that holds
 pub and-left : (a b : Bool) → (a && b) ≡ true → a ≡ true

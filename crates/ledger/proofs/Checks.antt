@@ -10,7 +10,8 @@ use lib.IntN.{ℤ, pos}
 use lib.ListN.{length, getD}
 use Rattle.laws.specs.Base.{pick}
 use Rattle.laws.proofs.Lists.{firstOf-passed, flat-div, flat-mod, flat-lt}
-use Rattle.laws.proofs.Tests.{and-left, by-test}
+use Rattle.laws.proofs.Tests.{and-left, by-test, never}
+use Rattle.book.proofs.Passes.{passes}
 use Rattle.pricing.specs.Verdict.{Verdict, accepted, refused, refusedAt}
 use Rattle.pricing.specs.Holding.{isEnergy, inRange}
 use Rattle.book.specs.declared.record.Book.{Book}
@@ -22,14 +23,6 @@ use Rattle.entries.specs.Checking.{Shape, lengthsOk, firstMark, badPrice, first
 use Rattle.entries.specs.Windows.{unmarked, joining, ringAfter}
 use Rattle.entries.specs.Entering.{shapeOf, termsOf, bookAfter, Outcome, enterVerdict, entered}
 use Rattle.ledger.proofs.Ranges.{Ranged}
-
-pub never {ℓ} : {X : Type ℓ} (t : Bool) → t ≡ true → t ≡ false → X
-never t p q = let z : _≡_ {A = ℕ} 0 1 = cc in absurd (omega arith)
-
--- where a choice between a refusal and the rest is an acceptance, its test failed and the rest is one
-pub passes : (t : Bool) (v w : Verdict) → isAccepted v ≡ false → isAccepted (pick t v w) ≡ true → (t ≡ false) × (isAccepted w ≡ true)
-passes true v w z e = never (isAccepted v) e z
-passes false v w z e = (refl, e)
 
 -- what passes 11 to 17
 pub record Passed (s : Shape) (taken ring number : ℕ) (e : Entry) : Type 0 where

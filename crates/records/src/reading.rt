@@ -1,10 +1,12 @@
 // Records of calls, read from bytes.
 use book::record::Settings;
 use codec::get;
+use codec::get_eight;
 use codec::get_u8;
 use codec::get_u16;
 use codec::get_u32;
 use codec::get_word;
+use codec::get_words;
 use codec::signed64;
 ghost use mathlib.Core.Path.{_≡_};
 ghost use mathlib.Core.Bool.{true};
@@ -26,19 +28,6 @@ pub struct Lengths {
     pub ring: usize,
 }
 
-// `n` signed numbers from `at`, put into `numbers` from `to`.
-pub fn get_words(bytes: &[u8], at: usize, n: usize, numbers: &mut [i32], to: usize)
-    requires { ⌜ (at + 4 * n ≤ length (now bytes)) × (to + n ≤ length (now numbers)) ⌝ }
-    ensures { λ _. ⌜ now (numbers .exit) ≡ sets (now (numbers .entry)) to (wordsAt (now (bytes .entry)) at n) ⌝ }
-{
-    let mut i: usize = 0;
-    while i < n {
-        let word = get_word(bytes, at + 4 * i);
-        numbers[to + i] = word;
-        i += 1;
-    }
-}
-
 // `n` unsigned numbers from `at`, put into the first places of `numbers`.
 pub fn get_numbers(bytes: &[u8], at: usize, n: usize, numbers: &mut [u32])
     requires { ⌜ (at + 4 * n ≤ length (now bytes)) × (n ≤ length (now numbers)) ⌝ }
@@ -50,19 +39,6 @@ pub fn get_numbers(bytes: &[u8], at: usize, n: usize, numbers: &mut [u32])
         numbers[i] = number;
         i += 1;
     }
-}
-
-fn get_parents(bytes: &[u8]) -> [u8; 8]
-    requires { ⌜ openingSize ≤ length (now bytes) ⌝ }
-    ensures { λ r. ⌜ r ≡ tabulate 8 (parentAt (now (bytes .entry))) ⌝ }
-{
-    let mut parents = [0u8; 8];
-    let mut i: usize = 0;
-    while i < 8 {
-        parents[i] = get_u8(bytes, 14 + i);
-        i += 1;
-    }
-    parents
 }
 
 // Whether an opening's whole record stands first.
@@ -80,7 +56,7 @@ pub fn settings_in(bytes: &[u8]) -> Settings
     requires { ⌜ openingSize ≤ length (now bytes) ⌝ }
     ensures { λ r. ⌜ r ≡ settingsIn (now (bytes .entry)) ⌝ }
 {
-    let parents = get_parents(bytes);
+    let parents = get_eight(bytes, 14);
     Settings {
         regions: get_u8(bytes, 6),
         services: get_u8(bytes, 7),

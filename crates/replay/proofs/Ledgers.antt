@@ -11,7 +11,7 @@ use lib.ListN.{length, take, drop, replicate, length-replicate, length-append, l
 use lib.Seq.{sets, length-sets, length-take-le, take-all, drop-length}
 use Rattle.laws.specs.Base.{pick}
 use Rattle.laws.specs.Lists.{tabulate}
-use Rattle.laws.proofs.Tests.{by-test, and-right}
+use Rattle.laws.proofs.Tests.{by-test, and-right, never}
 use Rattle.laws.proofs.Lists.{length-run}
 use Rattle.pricing.specs.Verdict.{Verdict, accepted, refused}
 use Rattle.book.specs.declared.record.Book.{Book}
@@ -21,7 +21,8 @@ use Rattle.book.specs.Validity.{valid}
 use Rattle.publishing.specs.Entry.{Entry}
 use Rattle.entries.specs.Checking.{lengthsOk, entryVerdict}
 use Rattle.entries.specs.Entering.{enterVerdict}
-use Rattle.ledger.proofs.Checks.{never, passes, entered-accepted, entered-refused, enter-passed}
+use Rattle.book.proofs.Passes.{passes}
+use Rattle.ledger.proofs.Checks.{entered-accepted, entered-refused, enter-passed}
 use Rattle.book.specs.Setting as Setting
 use Rattle.book.specs.Report as Report
 use Rattle.entries.specs.Entering as Entering

@@ -11,7 +11,7 @@ use lib.ListN.{length, take, drop, replicate, length-replicate, length-append}
 use lib.Seq.{sets, length-sets, length-take-le}
 use Rattle.laws.specs.Base.{pick}
 use Rattle.laws.specs.Lists.{tabulate}
-use Rattle.laws.proofs.Tests.{by-test}
+use Rattle.laws.proofs.Tests.{by-test, never}
 use Rattle.laws.proofs.Lists.{length-run}
 use Rattle.laws.proofs.Bytes.{sets-append}
 use Rattle.pricing.specs.Verdict.{Verdict, accepted, refused}
@@ -25,7 +25,6 @@ use Rattle.book.proofs.Kept.{opened-is, opened-not}
 use Rattle.ledger.specs.Calls.{Call, Answer, Step, answers}
 use Rattle.ledger.specs.Ledger as Ledger
 use Rattle.ledger.proofs.Agrees.{Agree}
-use Rattle.ledger.proofs.Checks.{never}
 use Rattle.ledger.proofs.Begins.{begins}
 use Rattle.records.specs.Reading.{parentAt, settingsIn}
 use Rattle.records.specs.Writing.{plainRecord}

@@ -17,8 +17,8 @@ read-counts-requires c κs = search needs
 next-places-requires : tie.Need-next-places-requires
 next-places-requires c κs = search needs
 
-read-parents-requires : tie.Need-read-parents-requires
-read-parents-requires c κs = search needs
+get-eight-requires : tie.Need-get-eight-requires
+get-eight-requires c κs = search needs
 
 read-marks-requires : tie.Need-read-marks-requires
 read-marks-requires c κs = search needs
@@ -60,7 +60,7 @@ returns c =
     let t : SFits w64 (s .signed64 .result) = search needs in
     let k : SFits w32 (c .before .before .before .get-word .result) = search needs in
     let f : SFits w32 (c .before .before .get-word2 .result) = search needs in
-    head-is _ _ _ _ _ _ _ _ _ _ _ _ _ _ (g .get-u8 .ensures) (s .before .before .before .get-u82 .ensures) (w .get-u16 .ensures) (s .before .before .get-u83 .ensures) (m .before .read-parents .ensures)
+    head-is _ _ _ _ _ _ _ _ _ _ _ _ _ _ (g .get-u8 .ensures) (s .before .before .before .get-u82 .ensures) (w .get-u16 .ensures) (s .before .before .get-u83 .ensures) (m .before .get-eight .ensures)
     (toZ-ofZ t ∙ s .signed64 .ensures ∙ ap (toZ w64) (s .before .get .ensures)) (toZ-ofZ k ∙ c .before .before .before .get-word .ensures) (toZ-ofZ f ∙ c .before .before .get-word2 .ensures)
     (c .before .get-u32 .ensures) (c .get-u162 .ensures) (n .before .read-counts .ensures) (n .next-places .ensures) (m .read-marks .ensures)
 
@@ -71,7 +71,7 @@ head-from-spec =
     get-u16-requires
     read-counts-requires
     next-places-requires
-    read-parents-requires
+    get-eight-requires
     read-marks-requires
     get-u8-requires
     get-u8-requires-2

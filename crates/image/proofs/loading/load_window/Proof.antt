@@ -5,8 +5,8 @@ use Rattle.image.proofs.Runs.{load-runs}
 use Rattle.image.proofs.loading.load_window.Statement.{statement}
 use Rattle.image.proofs.loading.load_window.Tie as tie
 
-load-run-requires : tie.Need-load-run-requires
-load-run-requires c κs = search needs
+get-words-requires : tie.Need-get-words-requires
+get-words-requires c κs = search needs
 
 add-zero-run : tie.Need-add-zero-run
 add-zero-run c = search needs
@@ -25,9 +25,9 @@ returns c =
     let z = c .before in
     let l = z .before .before .before in
     let a = l .before .before .before .args in
-    rw (z .zero-run .ensures, l .load-run .ensures) (load-runs (a .bytes .now) (a .ring .now) (a .window) (a .count) (a .from) (a .base) (l .before .before .before .pre .0))
+    rw (z .zero-run .ensures, l .get-words .ensures) (load-runs (a .bytes .now) (a .ring .now) (a .window) (a .count) (a .from) (a .base) (l .before .before .before .pre .0))
 
 pub load-window-spec : {M : Type 1} → statement M
 load-window-spec =
     tie.close
-    (tie.spec load-run-requires add-zero-run sub-zero-run zero-run-requires same-length returns)
+    (tie.spec get-words-requires add-zero-run sub-zero-run zero-run-requires same-length returns)

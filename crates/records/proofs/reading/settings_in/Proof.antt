@@ -8,8 +8,8 @@ use borrow.Author.Needs.{needs}
 use Rattle.records.proofs.reading.settings_in.Statement.{statement}
 use Rattle.records.proofs.reading.settings_in.Tie as tie
 
-get-parents-requires : tie.Need-get-parents-requires
-get-parents-requires c κs = search needs
+get-eight-requires : tie.Need-get-eight-requires
+get-eight-requires c κs = search needs
 
 get-u8-requires : tie.Need-get-u8-requires
 get-u8-requires c κs = search needs
@@ -51,14 +51,14 @@ returns c =
     let ft : SFits w64 (t .signed64 .result) = search needs in
     let fk : SFits w32 (k .get-word .result) = search needs in
     let fo : SFits w32 (c .get-word2 .result) = search needs in
-    settings-are _ _ (r .get-u8 .ensures) (s .get-u82 .ensures) (w .get-u16 .ensures) (h .get-u83 .ensures) (f .get-u162 .ensures) (r .before .get-parents .ensures)
+    settings-are _ _ (r .get-u8 .ensures) (s .get-u82 .ensures) (w .get-u16 .ensures) (h .get-u83 .ensures) (f .get-u162 .ensures) (r .before .get-eight .ensures)
     (toZ-ofZ ft ∙ t .signed64 .ensures ∙ ap (toZ w64) (g .get .ensures)) (toZ-ofZ fk ∙ k .get-word .ensures) (toZ-ofZ fo ∙ c .get-word2 .ensures)
 
 pub settings-in-spec : {M : Type 1} → statement M
 settings-in-spec =
     tie.close
     (tie.spec
-    get-parents-requires
+    get-eight-requires
     get-u8-requires
     get-u8-requires-2
     get-u16-requires

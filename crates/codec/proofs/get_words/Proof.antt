@@ -1,22 +1,26 @@
--- `records::reading::get_words` meets its contract. The loop's invariant: what is still to go is the same at every turn. Assumes nothing.
+-- `codec::get_words` meets its contract. The loop's invariant: what is still to go is the same at every turn. Assumes nothing.
 use mathlib.Core.Path.{_≡_, refl, _∙_}
-use Prim.Native.Nat.{_≤_, _-_, _+_}
+use mathlib.Core.List.{List}
+use Prim.Native.Nat.{ℕ, _≤_, _-_, _+_, _*_}
 use native.Mathlib.Omega.{arith}
+use lib.IntN.{ℤ}
 use lib.ListN.{length, length-set}
 use lib.Seq.{sets}
 use mir.Syntax.{w32}
-use mir.Val.{SFits}
+use mir.Val.{SFits, toZ}
 use mir.Facts.{toZ-ofZ}
-use Rattle.laws.specs.Lists.{run}
+use Rattle.laws.specs.Lists.{run, tabulate}
+use Rattle.laws.specs.Bytes.{numberAt}
 use Rattle.laws.proofs.Lists.{run-none, run-step, run-done}
-use Rattle.image.specs.Loading.{priceAt}
-use Rattle.records.specs.Reading.{wordsAt}
 use borrow.Author.Needs.{needs}
-use Rattle.records.proofs.reading.get_words.Statement.{statement}
-use Rattle.records.proofs.reading.get_words.Tie as tie
+use Rattle.codec.proofs.get_words.Statement.{statement}
+use Rattle.codec.proofs.get_words.Tie as tie
+
+abbrev wordAt : List ℕ → ℕ → ℕ → ℤ
+wordAt bytes at i = toZ w32 (numberAt bytes (at + 4 * i) 4)
 
 abbrev Inv-loop : tie.InvT-loop
-Inv-loop bytes at n numbers₀ to i₀ numbers i = (i ≤ n) × (length numbers ≡ length numbers₀) × (sets numbers (to + i) (run (n - i) i (priceAt bytes at)) ≡ sets numbers₀ to (wordsAt bytes at n))
+Inv-loop bytes at n numbers₀ to i₀ numbers i = (i ≤ n) × (length numbers ≡ length numbers₀) × (sets numbers (to + i) (run (n - i) i (wordAt bytes at)) ≡ sets numbers₀ to (tabulate n (wordAt bytes at)))
 
 abbrev μ-loop : tie.MeasureT-loop
 μ-loop bytes at n numbers₀ to i₀ numbers i = n - i
@@ -55,7 +59,7 @@ loop-again c =
     let f : SFits w32 (c .get-word .result) = search needs in (
       omega arith,
       simp length-set (omega arith),
-      run-step (priceAt (a .bytes .now) (a .at)) _ _ _ _ _ _ (omega arith) (toZ-ofZ f ∙ c .get-word .ensures) (l .inv .2),
+      run-step (wordAt (a .bytes .now) (a .at)) _ _ _ _ _ _ (omega arith) (toZ-ofZ f ∙ c .get-word .ensures) (l .inv .2),
     )
 
 same-length : tie.Need-same-length Inv-loop μ-loop

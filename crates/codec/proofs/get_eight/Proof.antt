@@ -1,20 +1,20 @@
--- `records::reading::get_parents` meets its contract. The loop fills the array from the front. Assumes nothing.
+-- `codec::get_eight` meets its contract. The loop fills the array from the front. Assumes nothing.
 use mathlib.Core.Path.{_≡_, refl}
 use mathlib.Core.List.{_++_}
-use Prim.Native.Nat.{_≤_, _-_}
+use Prim.Native.Nat.{_≤_, _-_, _+_}
 use native.Mathlib.Omega.{arith}
 use lib.ListN.{length, drop, length-set}
 use Rattle.laws.specs.Lists.{tabulate}
+use Rattle.laws.specs.Bytes.{numberAt}
 use Rattle.laws.proofs.Lists.{tab-none, tab-step, tab-done}
-use Rattle.records.specs.Reading.{parentAt}
-use Rattle.records.proofs.reading.get_parents.Statement.{statement}
-use Rattle.records.proofs.reading.get_parents.Tie as tie
+use Rattle.codec.proofs.get_eight.Statement.{statement}
+use Rattle.codec.proofs.get_eight.Tie as tie
 
 abbrev Inv-loop : tie.InvT-loop
-Inv-loop bytes parents₀ i₀ parents i = (i ≤ 8) × (length parents ≡ 8) × (parents ≡ tabulate i (parentAt bytes) ++ drop i parents₀)
+Inv-loop bytes at all₀ i₀ all i = (i ≤ 8) × (length all ≡ 8) × (all ≡ tabulate i (λ k. numberAt bytes (at + k) 1) ++ drop i all₀)
 
 abbrev μ-loop : tie.MeasureT-loop
-μ-loop bytes parents₀ i₀ parents i = 8 - i
+μ-loop bytes at all₀ i₀ all i = 8 - i
 
 loop-holds : tie.Need-loop-holds Inv-loop μ-loop
 loop-holds c = (omega arith, refl, tab-none _ _)
@@ -25,8 +25,8 @@ add-get-u8 c = omega arith
 get-u8-requires : tie.Need-get-u8-requires Inv-loop μ-loop
 get-u8-requires c κs = omega arith
 
-array-write-parents : tie.Need-array-write-parents Inv-loop μ-loop
-array-write-parents c = omega arith
+array-write-all : tie.Need-array-write-all Inv-loop μ-loop
+array-write-all c = omega arith
 
 add-i : tie.Need-add-i Inv-loop μ-loop
 add-i c = omega arith
@@ -40,8 +40,8 @@ loop-again c = (omega arith, simp length-set (omega arith), tab-step _ _ _ _ _ (
 returns : tie.Need-returns Inv-loop μ-loop
 returns c = tab-done _ _ _ _ _ (c .before .loop .inv .2) (omega arith) (omega arith)
 
-pub get-parents-spec : {M : Type 1} → statement M
-get-parents-spec =
+pub get-eight-spec : {M : Type 1} → statement M
+get-eight-spec =
     tie.close
     (tie.spec
     Inv-loop
@@ -49,7 +49,7 @@ get-parents-spec =
     loop-holds
     add-get-u8
     get-u8-requires
-    array-write-parents
+    array-write-all
     add-i
     loop-less
     loop-again
