@@ -263,38 +263,49 @@ fn restarts_at_every_phase() {
     met.say("restarts");
 }
 
-/// "The real market has R 5, S 10, W 2,016, H 48": its head, with restarts, settings and reports.
+/// "The real market has R 5, S 10, W 2,016, H 48": its head, with restarts, settings and reports; and with windows of 96, which turn
+/// round in it, since the ledger takes too long over weeks.
 #[test]
 fn real_market() {
-    let mut met = Met::default();
-    let mut random = Random::new(0xF_0000);
-    let opening = Opening {
-        first: 280,
-        parents: books::parents(&[255, 0, 0, 2, 2]),
-        threshold: 1_000_000,
-        ..books::opening(5, 10, 2_016, 48)
-    };
-    let mut ledger = books::open(&opening);
-    let mut records = vec![Record::Opening(lists::opening_record(&opening))];
+    for window in [2_016, 96] {
+        let mut met = Met::default();
+        let mut random = Random::new(0xF_0000);
+        let opening = Opening {
+            first: 280,
+            parents: books::parents(&[255, 0, 0, 2, 2]),
+            threshold: 1_000_000,
+            ..books::opening(5, 10, window, 48)
+        };
+        let (records, ledger) = real_list(&mut random, &opening);
+        let played = met.list(&whole(&opening, records));
+        assert_eq!(played.image, ledger.image());
+        let (_, counted, _, _) = books::report(&ledger, 4, 10);
+        assert_eq!(counted == window, window == 96);
+        met.say(&format!("real market, W {window}"));
+        met.at_least(ENTRY, &[0], 250);
+        met.at_least(RESTART, &[0], 20);
+    }
+}
+
+/// 250 entries with restarts and thresholds between them, then every report and a restart; and the ledger after them.
+fn real_list(random: &mut Random, opening: &Opening) -> (Vec<Record>, Ledger) {
+    let mut ledger = books::open(opening);
+    let mut records = vec![Record::Opening(lists::opening_record(opening))];
     for turn in 0..250 {
-        records.push(next_entry(&mut random, &mut ledger));
+        records.push(next_entry(random, &mut ledger));
         match turn % 25 {
             7 | 20 => records.push(Record::Restart),
             24 => {
-                let call = Call::Threshold(calls::next_threshold(&mut random, &ledger));
+                let call = Call::Threshold(calls::next_threshold(random, &ledger));
                 ledger.call(&call);
                 records.push(lists::call_record(call));
             }
             _ => {}
         }
     }
-    records.extend(lists::all_reports(&opening));
+    records.extend(lists::all_reports(opening));
     records.push(Record::Restart);
-    let played = met.list(&whole(&opening, records));
-    assert_eq!(played.image, ledger.image());
-    met.say("real market");
-    met.at_least(ENTRY, &[0], 250);
-    met.at_least(RESTART, &[0], 20);
+    (records, ledger)
 }
 
 /// A list as a replay plays it that tests "at least" for "exceeds": every threshold is lower by one.
