@@ -18,11 +18,11 @@ use Rattle.book.specs.declared.record.Book.{Book}
 use Rattle.book.specs.Validity.{thresholdOk}
 use Rattle.book.proofs.Validities.{Valid, used, unused, used-or}
 use Rattle.publishing.specs.Entry.{Offer}
-use Rattle.entries.specs.Windows.{sumsAfter}
-use Rattle.entries.specs.Periods.{lastOfDay, markAfter, marksAfter}
+use Rattle.counting.specs.Windows.{sumsAfter}
+use Rattle.counting.specs.Periods.{lastOfDay, markAfter, marksAfter}
 use Rattle.entries.specs.Entering.{bookAfter}
-use Rattle.entries.specs.Working.{offered, entering, countsBy, nextsBy, marksBy}
-use Rattle.entries.proofs.Picks.{same-pick}
+use Rattle.counting.specs.Working.{offered, entering, countsBy, nextsBy, marksBy}
+use Rattle.counting.proofs.Picks.{same-pick}
 
 -- a sum of zero is above no threshold
 no-mark : (threshold : ℤ) (last : Bool) → thresholdOk threshold ≡ true → markAfter threshold last (pos 0) 0 ≡ 0

@@ -1,9 +1,8 @@
 -- Whether a place of the prices is bad, from what a turn of the search read there. Assumes nothing.
-use mathlib.Core.Path.{_≡_, _∙_}
+use mathlib.Core.Path.{_≡_}
 use mathlib.Core.Bool.{Bool, false, not, _&&_}
 use mathlib.Core.List.{List}
 use Prim.Native.Nat.{ℕ, _+_, _*_, _<_}
-use native.Mathlib.Nat.{add-mul, one-mul}
 use lib.Dec.{eqb}
 use lib.IntN.{ℤ, pos}
 use lib.ListN.{getD}
@@ -18,6 +17,3 @@ Clean markets prices marked n = (k : ℕ) → k < n → badPrice markets prices 
 module _ (M : ℕ) (prices : List ℤ) (marked : List ℕ) (r : ℕ) where
   pub bad-at : (m : ℕ) (b : Bool) → m < M → (eqb (getD marked r 0) 0 && not (inRange (isEnergy m) (getD prices (r * M + m) (pos 0)))) ≡ b → badPrice M prices marked (r * M + m) ≡ b
   bad-at m b h e = rw (flat-div r m M h, flat-mod r m M h) e
-
-pub next-row : (r M : ℕ) → (r + 1) * M ≡ r * M + M
-next-row r M = add-mul r 1 M ∙ rw (one-mul M)

@@ -1,8 +1,4 @@
-mod Picks
 mod Bads
-mod Moves
-mod Stages
-mod Takings
 mod Afters
 pub mod Accepted
 pub mod Unmoved

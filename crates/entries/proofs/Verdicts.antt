@@ -20,7 +20,7 @@ use Rattle.publishing.specs.Entry.{Entry, Terms-ok, Offer-ok, Links-ok}
 use Rattle.publishing.specs.Published.{tableOf, countOf}
 use Rattle.entries.specs.declared.Publication.the-variants.{Count, Refused as Not-published}
 use Rattle.entries.specs.Checking.{lengthsOk, firstMark, firstPrice, firstFactor, entryVerdict}
-use Rattle.entries.specs.Windows.{ringAfter}
+use Rattle.counting.specs.Windows.{ringAfter}
 use Rattle.entries.specs.Entering.{shapeOf, termsOf, bookAfter, enterVerdict, outcome, entered}
 use Rattle.entries.specs.Working.{slicesVerdict, Accepts, acceptance}
 use Rattle.book.proofs.Validities.{valid-is}

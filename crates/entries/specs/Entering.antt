@@ -16,8 +16,8 @@ use Rattle.entries.specs.declared.Publication.{Publication}
 use Rattle.entries.specs.declared.Publication.the-variants.{Count, Refused}
 use Rattle.entries.specs.declared.Entered.{Entered}
 use Rattle.entries.specs.Checking.{Shape, entryVerdict}
-use Rattle.entries.specs.Windows.{sumsAfter, countsAfter, nextsAfter, ringAfter}
-use Rattle.entries.specs.Periods.{lastOfDay, positionAfter, marksAfter}
+use Rattle.counting.specs.Windows.{sumsAfter, countsAfter, nextsAfter, ringAfter}
+use Rattle.counting.specs.Periods.{lastOfDay, positionAfter, marksAfter}
 
 abbrev pub shapeOf : Book → Shape
 shapeOf b = record { regions = b .regions; services = b .services; window = b .window; halves = b .halves; parents = b .parents }

@@ -1,27 +1,26 @@
-// The entry of an interval: its refusals, steps 5 (windows) and 6 (periods), and the whole call.
+// The entry of an interval: its refusals, and the whole call, steps 1 to 6.
 mod checking;
-mod periods;
-mod windows;
 
 use crate::checking::enter_verdict;
-use crate::periods::last_of_day;
-use crate::periods::marks_after;
-use crate::periods::position_after;
-use crate::windows::counts_after;
-use crate::windows::nexts_after;
-use crate::windows::take;
 use book::record::Answer;
 use book::record::Book;
 use book::record::Refusal;
+use counting::periods::last_of_day;
+use counting::periods::marks_after;
+use counting::periods::position_after;
+use counting::windows::counts_after;
+use counting::windows::nexts_after;
+use counting::windows::take;
 use publishing::Terms;
 use publishing::publish;
 ghost use mathlib.Core.Path.{_≡_};
 ghost use Prim.Native.Nat.{_<_};
 ghost use lib.ListN.{length};
 ghost use Rattle.publishing.specs.Entry.{entryOf};
-ghost use Rattle.entries.specs.Windows.{ringAfter};
+ghost use Rattle.counting.specs.Windows.{ringAfter};
 ghost use Rattle.entries.specs.Entering.{termsOf, bookAfter, outcome, entered};
-ghost use Rattle.entries.specs.Working.{offered, entering, Takes, Accepts, acceptance};
+ghost use Rattle.counting.specs.Working.{offered, entering, Takes};
+ghost use Rattle.entries.specs.Working.{Accepts, acceptance};
 
 // The count of published prices that differ from the effective ones, or the first refusal.
 pub enum Publication {

@@ -22,8 +22,8 @@ use Rattle.head.specs.Counted.{inOrder}
 use Rattle.publishing.specs.declared.Terms.{Terms}
 use Rattle.publishing.specs.Entry.{Entry}
 use Rattle.entries.specs.Checking.{Shape}
-use Rattle.entries.specs.Windows.{unmarked, joining, sumsAfter, ringAfter}
-use Rattle.entries.specs.Periods.{lastOfDay, positionAfter, markAfter, marksAfter}
+use Rattle.counting.specs.Windows.{unmarked, joining, sumsAfter, ringAfter}
+use Rattle.counting.specs.Periods.{lastOfDay, positionAfter, markAfter, marksAfter}
 use Rattle.entries.specs.Entering as Entering
 use Rattle.entries.specs.Entering.{termsOf, bookAfter}
 use Rattle.ledger.specs.Ledger as Ledger

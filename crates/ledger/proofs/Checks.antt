@@ -20,7 +20,7 @@ use Rattle.book.specs.Validity.{valid}
 use Rattle.publishing.specs.Entry.{Entry}
 use Rattle.publishing.specs.Published.{tableOf, countOf}
 use Rattle.entries.specs.Checking.{Shape, lengthsOk, firstMark, badPrice, firstPrice, entryVerdict}
-use Rattle.entries.specs.Windows.{unmarked, joining, ringAfter}
+use Rattle.counting.specs.Windows.{unmarked, joining, ringAfter}
 use Rattle.entries.specs.Entering.{shapeOf, termsOf, bookAfter, Outcome, enterVerdict, entered}
 use Rattle.ledger.proofs.Ranges.{Ranged}
 

@@ -20,7 +20,7 @@ use Rattle.book.specs.declared.record.Settings.{Settings}
 use Rattle.book.specs.Record.{marketsOf}
 use Rattle.book.specs.Validity.{usedPlace}
 use Rattle.publishing.specs.Entry.{Entry}
-use Rattle.entries.specs.Periods.{lastOfDay, positionAfter, markAfter}
+use Rattle.counting.specs.Periods.{lastOfDay, positionAfter, markAfter}
 use Rattle.ledger.specs.Ledger.{Item, interval, threshold-set, limits-set, Ledger, entriesOf, taken, day, positionAt, before, thresholdBy, capBy, floorBy, lastSet, thresholdAt, capAt, floorAt, isUnmarked, entryPrice, unmarkedPrices, lastPrices, sumAfter, triggers, releases, administeredAt, Administered, marksAt, kept}
 use Rattle.ledger.proofs.Pushes.{pushed}
 use Rattle.ledger.proofs.Periods.{adm-next, adm-out, adm-in}

@@ -25,8 +25,8 @@ use Rattle.book.proofs.Validities.{Valid, valid-is, is-valid}
 use Rattle.head.specs.Counted.{inOrder}
 use Rattle.image.specs.Storing.{pricesOk}
 use Rattle.publishing.specs.Entry.{Entry}
-use Rattle.entries.specs.Windows.{unmarked, joining, countsAfter, nextsAfter, sumsAfter, ringAfter}
-use Rattle.entries.specs.Periods.{markAfter, lastOfDay}
+use Rattle.counting.specs.Windows.{unmarked, joining, countsAfter, nextsAfter, sumsAfter, ringAfter}
+use Rattle.counting.specs.Periods.{markAfter, lastOfDay}
 use Rattle.entries.specs.Entering.{bookAfter, Outcome, enterVerdict, entered}
 use Rattle.ledger.proofs.Joining.{pushed-every}
 use Rattle.ledger.proofs.Turning.{Placed}

@@ -23,8 +23,8 @@ use Rattle.image.specs.Same.{Same}
 use Rattle.image.proofs.Sameness.{withNexts, same-book}
 use Rattle.publishing.specs.Entry.{Entry}
 use Rattle.entries.specs.Checking.{entryVerdict}
-use Rattle.entries.specs.Windows.{unmarked, joins, joining, leaving, sumsAfter, ringAfter}
-use Rattle.entries.specs.Periods.{marksAfter, lastOfDay}
+use Rattle.counting.specs.Windows.{unmarked, joins, joining, leaving, sumsAfter, ringAfter}
+use Rattle.counting.specs.Periods.{marksAfter, lastOfDay}
 use Rattle.entries.specs.Entering.{shapeOf, bookAfter, Outcome, enterVerdict, entered}
 use Rattle.ledger.proofs.Pushes.{pushed}
 use Rattle.ledger.proofs.Sounds.{Sound, marketAt}

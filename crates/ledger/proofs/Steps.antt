@@ -18,8 +18,8 @@ use Rattle.book.specs.Record.{marketsOf, placeOf}
 use Rattle.book.specs.Validity.{usedPlace}
 use Rattle.head.specs.Counted.{inOrder}
 use Rattle.publishing.specs.Entry.{Offer, Entry}
-use Rattle.entries.specs.Windows.{unmarked, joins, joining, leaving, sumAfter, sumsAfter, grown, countsAfter, following, nextsAfter, written, ringAfter}
-use Rattle.entries.specs.Periods.{markAfter, lastOfDay, positionAfter}
+use Rattle.counting.specs.Windows.{unmarked, joins, joining, leaving, sumAfter, sumsAfter, grown, countsAfter, following, nextsAfter, written, ringAfter}
+use Rattle.counting.specs.Periods.{markAfter, lastOfDay, positionAfter}
 use Rattle.entries.specs.Entering.{bookAfter}
 use Rattle.ledger.proofs.Pushes.{pushed}
 use Rattle.ledger.proofs.Joining.{pushed-total}

@@ -25,7 +25,7 @@ use Rattle.publishing.specs.declared.Terms.{Terms}
 use Rattle.publishing.specs.Entry.{Entry}
 use Rattle.publishing.specs.Published.{tableOf, countOf}
 use Rattle.entries.specs.Checking.{Shape, entryVerdict}
-use Rattle.entries.specs.Windows.{ringAfter}
+use Rattle.counting.specs.Windows.{ringAfter}
 use Rattle.entries.specs.Entering as Entering
 use Rattle.entries.specs.Entering.{bookAfter, termsOf, enterVerdict}
 use Rattle.ledger.specs.Calls.{Call, entry, threshold, limits, report, restart, Answer, entered, set, reported, restarted, Step, answers, after}

@@ -14,7 +14,7 @@ use Rattle.laws.specs.Lists.{run, tabulate}
 use Rattle.laws.proofs.Lists.{length-run, getD-tabulate, tabulate-next, tabulate-same}
 use Rattle.laws.proofs.Tests.{by-test, lt-or-ge}
 use Rattle.head.specs.Counted.{wrap}
-use Rattle.entries.specs.Windows.{grown, following}
+use Rattle.counting.specs.Windows.{grown, following}
 use Rattle.ledger.proofs.Pushes.{pushed}
 use Rattle.ledger.proofs.Joining.{pushed-early, pushed-full}
 

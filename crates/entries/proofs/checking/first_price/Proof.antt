@@ -13,7 +13,8 @@ use lib.ListN.{getD}
 use Rattle.laws.proofs.Integers.{signed}
 use Rattle.laws.proofs.Lists.{flat-lt, firstOf-found, firstOf-none}
 use Rattle.entries.specs.Checking.{badPrice}
-use Rattle.entries.proofs.Bads.{Clean, bad-at, next-row}
+use Rattle.entries.proofs.Bads.{Clean, bad-at}
+use Rattle.counting.proofs.Picks.{next-row}
 use Rattle.entries.proofs.checking.first_price.Statement.{statement}
 use Rattle.entries.proofs.checking.first_price.Tie as tie
 

@@ -1,0 +1,4 @@
+pub mod Picks
+mod Moves
+mod Stages
+mod Takings

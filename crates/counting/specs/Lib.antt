@@ -1,0 +1,3 @@
+pub mod Windows
+pub mod Periods
+pub mod Working
