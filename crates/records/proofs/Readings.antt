@@ -145,9 +145,11 @@ module _ (c : List ℕ) (at : ℕ) where
       goes-other k = rw (ne-eqb (callSize c at) 0 h, ne-eqb (kindAt c at) 65 k)
 
   -- ---- the lengths in an entry's record are below 2 ^ 32
-  pub lengths-small : ((i : ℕ) → getD c i 0 < 256) → at + 40 ≤ length c → (l : Lengths) → l ≡ lengthsAt c at → (l .prices ≤ 4294967295) × (l .flows ≤ 4294967295) × (l .schedule ≤ 4294967295)
+  pub lengths-small : ((i : ℕ) → getD c i 0 < 256) → at + 40 ≤ length c → (l : Lengths) → l ≡ lengthsAt c at
+      → (l .prices ≤ 4294967295) × (l .marks ≤ 4294967295) × (l .flows ≤ 4294967295) × (l .factors ≤ 4294967295) × (l .schedule ≤ 4294967295) × (l .table ≤ 4294967295)
   lengths-small b h l e =
-      rw e (omega (arith, number-below c b (at + 12) 4 (omega arith)), omega (arith, number-below c b (at + 20) 4 (omega arith)), omega (arith, number-below c b (at + 28) 4 (omega arith)))
+      let small : (p : ℕ) → p + 4 ≤ 40 → numberAt c (at + p) 4 ≤ 4294967295 = λ p q. omega (arith, number-below c b (at + p) 4 (omega arith)) in
+      rw e (small 12 (omega arith), small 16 (omega arith), small 20 (omega arith), small 24 (omega arith), small 28 (omega arith), small 32 (omega arith))
 
 -- ---- an entry's contents, part after part
 joined : (n xs ys zs : List ℤ) (p f : ℕ) → length xs ≡ p → length ys ≡ f → sets (sets (sets n 0 xs) p ys) (p + f) zs ≡ sets n 0 (xs ++ (ys ++ zs))

@@ -86,6 +86,16 @@ pub fn lengths_at(bytes: &[u8], at: usize) -> Lengths
     }
 }
 
+// The length of an entry's record of these lengths.
+fn entry_size(lengths: Lengths) -> usize
+    requires { ⌜ (lengths .prices ≤ 4294967295) × (lengths .marks ≤ 4294967295) × (lengths .flows ≤ 4294967295) × (lengths .factors ≤ 4294967295) × (lengths .schedule ≤ 4294967295) × (lengths .table ≤ 4294967295) ⌝ }
+    ensures { λ r. ⌜ r ≡ entrySize lengths ⌝ }
+{
+    let before = 40 + 4 * lengths.prices + lengths.marks;
+    let links = 4 * lengths.flows + 4 * lengths.factors;
+    before + links + 4 * lengths.schedule + 4 * lengths.table
+}
+
 // The length of an entry's record by the lengths that it says, or 0.
 fn entry_size_at(bytes: &[u8], at: usize) -> usize
     requires { ⌜ at ≤ length (now bytes) ⌝ }
@@ -97,13 +107,8 @@ fn entry_size_at(bytes: &[u8], at: usize) -> usize
     if get_u8(bytes, at + 11) != 0 {
         return 0;
     }
-    let prices = get_u32(bytes, at + 12) as usize;
-    let marks = get_u32(bytes, at + 16) as usize;
-    let flows = get_u32(bytes, at + 20) as usize;
-    let factors = get_u32(bytes, at + 24) as usize;
-    let schedule = get_u32(bytes, at + 28) as usize;
-    let table = get_u32(bytes, at + 32) as usize;
-    40 + 4 * prices + marks + 4 * flows + 4 * factors + 4 * schedule + 4 * table
+    let lengths = lengths_at(bytes, at);
+    entry_size(lengths)
 }
 
 // The length of a call's record of a kind, or 0.

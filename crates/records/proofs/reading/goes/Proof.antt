@@ -43,7 +43,8 @@ lengths-at-requires c κs = omega (arith, forty c)
 fits-requires : tie.Need-fits-requires
 fits-requires c κs =
     let k = c .before .before .before .before .before in
-    lengths-small _ _ (λ i. omega (arith, k .shared-slice-known .given i)) (omega (arith, forty (c .before))) _ (c .lengths-at .ensures)
+    let s = lengths-small _ _ (λ i. omega (arith, k .shared-slice-known .given i)) (omega (arith, forty (c .before))) _ (c .lengths-at .ensures) in
+    (s .0, s .2, s .4)
 
 returns-2 : tie.Need-returns-2
 returns-2 c =
