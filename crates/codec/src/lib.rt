@@ -84,7 +84,7 @@ pub fn bits32(z: i32) -> u32
     }
 }
 
-pub fn signed32(x: u32) -> i32
+fn signed32(x: u32) -> i32
     ensures { λ r. ⌜ r ≡ toZ w32 x ⌝ }
 {
     if x < 2147483648 {

@@ -5,4 +5,3 @@ pub mod Regions
 pub mod Crossing
 pub mod Unused
 pub mod Bounded
-pub mod Cases

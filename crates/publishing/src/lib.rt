@@ -47,7 +47,7 @@ fn scheduled(
 }
 
 // Step 1.
-pub fn effective(
+fn effective(
     terms: Terms,
     kind: usize,
     prices: &[i32],

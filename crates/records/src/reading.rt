@@ -29,7 +29,7 @@ pub struct Lengths {
 }
 
 // `n` unsigned numbers from `at`, put into the first places of `numbers`.
-pub fn get_numbers(bytes: &[u8], at: usize, n: usize, numbers: &mut [u32])
+fn get_numbers(bytes: &[u8], at: usize, n: usize, numbers: &mut [u32])
     requires { ⌜ (at + 4 * n ≤ length (now bytes)) × (n ≤ length (now numbers)) ⌝ }
     ensures { λ _. ⌜ now (numbers .exit) ≡ sets (now (numbers .entry)) 0 (numbersAt (now (bytes .entry)) at n) ⌝ }
 {

@@ -61,7 +61,7 @@ pub fn put_answer(answers: &mut [u8], at: usize, size: usize, kind: u16, answer:
 }
 
 // Signed numbers, four bytes each, put from a place.
-pub fn put_words(answers: &mut [u8], at: usize, numbers: &[i32])
+fn put_words(answers: &mut [u8], at: usize, numbers: &[i32])
     requires { ⌜ at + 4 * length (now numbers) ≤ length (now answers) ⌝ }
     ensures { λ _. ⌜ now (answers .exit) ≡ sets (now (answers .entry)) at (words (now (numbers .entry))) ⌝ }
 {

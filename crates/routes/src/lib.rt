@@ -16,7 +16,7 @@ pub enum Limit {
 }
 
 // Of two limits the one that binds.
-pub fn tighter(caps: bool, a: Limit, b: Limit) -> Limit
+fn tighter(caps: bool, a: Limit, b: Limit) -> Limit
     ensures { λ r. ⌜ r ≡ tighter caps a b ⌝ }
 {
     match a {
