@@ -8,7 +8,7 @@
 --   steps 1 to 4: `tableOf` and `countOf` over `Terms` and `Entry`: the literal tables of proofs/Cases and proofs/Run, the programs guide and
 --   guide_books, must-fail edits of publishing and routes
 --   sizes and places: `marketsOf`, `ringSize`, `usedPlace`: the same lists and programs, must-fail edits of book
---   forms alone: `Settings`, `Verdict`, `Numbers` with `nothing`, `isAccepted`, and the calls and answers of Calls
+--   forms alone: `Settings`, `Verdict`, `Numbers` with `nothing`, `isAccepted`, the calls and answers of Calls, and the lists of laws
 -- All of them are compared with the independent ledger of host/rust, which shares no definition.
 use mathlib.Core.Path.{_≡_}
 use mathlib.Core.Bool.{Bool, true, false, not, _&&_}
