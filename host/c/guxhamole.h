@@ -1,6 +1,7 @@
 /* The functions that a C host may call. All are proved for all arguments: they read and write only what they are lent, the
    index and the image check write nothing, and they end. Link with libcapi.a, which `rt staticlib capi` writes to
-   target/staticlib. */
+   target/staticlib, for x86-64 Linux alone. docs/REFUSALS.md has every number that they answer: its meaning, its place and what
+   a host should do. */
 #ifndef GUXHAMOLE_H
 #define GUXHAMOLE_H
 

@@ -12,7 +12,7 @@ use Rattle.book.specs.Record.{marketsOf, placeOf}
 use Rattle.book.specs.Validity.{usedPlace}
 use Rattle.publishing.specs.Entry.{Offer}
 
--- "Each unmarked region's entry prices .. join its windows. A marked region's windows stay"
+-- "Each unmarked region's entry prices, .. join its windows; .. A marked region's windows stay"
 abbrev pub unmarked : Offer → ℕ → Bool
 unmarked o region = eqb (getD (o .marked) region 0) 0
 

@@ -57,7 +57,7 @@ firstBad bytes = badFrom (headFrom bytes) bytes headSize (marketCount (headFrom 
 abbrev pub ringOf : Book → ℕ
 ringOf b = ringSize (b .regions) (b .services) (b .window)
 
--- ".. 27; 11; 16"
+-- ".. 27 length formula; 11; 16, .."
 unfoldable pub loadVerdict : List ℕ → ℕ → Verdict
 loadVerdict bytes ring =
     pick (not (isAccepted (headVerdict bytes))) (headVerdict bytes)

@@ -1,5 +1,15 @@
 -- The ledger machine P of document 01: it keeps the settings of opening and, in order, the accepted entries and settings, and
 -- works everything else out from these. It has no book, no ring, no running sum, no count and no next place. Assumes nothing.
+--
+-- Positions, sums, counts, settings at an entry, periods and restarts are P's own. These definitions it shares with the book, so that
+-- DEMAND 3 alone would not show a mistake in them; what guards them besides:
+--   refusals after 10: `entryVerdict` (over `Shape`), `thresholdVerdict`, `limitsVerdict`, `reportVerdict`: the literal answers of proofs/Run
+--   (12: proofs/Full), the program guide_books, must-fail edits of entries and book
+--   steps 1 to 4: `tableOf` and `countOf` over `Terms` and `Entry`: the literal tables of proofs/Cases and proofs/Run, the programs guide and
+--   guide_books, must-fail edits of publishing and routes
+--   sizes and places: `marketsOf`, `ringSize`, `usedPlace`: the same lists and programs, must-fail edits of book
+--   forms alone: `Settings`, `Verdict`, `Numbers` with `nothing`, `isAccepted`, the calls and answers of Calls, and the lists of laws
+-- All of them are compared with the independent ledger of host/rust, which shares no definition.
 use mathlib.Core.Path.{_≡_}
 use mathlib.Core.Bool.{Bool, true, false, not, _&&_}
 use mathlib.Core.List.{List, [], _∷_, _++_}
@@ -125,7 +135,7 @@ unfoldable pub administeredAt : Ledger → ℕ → ℕ → ℕ → Bool
 administeredAt p region market t =
     anyBelow t (λ j. triggers p region market j && allBelow t (λ i. not (leb j i && releases p region market i)))
 
--- the same in logical form; that the two agree is proved in proofs/Periods
+-- the same in logical form; that the two agree is proved in proofs/Histories (`administered-is`, `is-administered`)
 pub record Administered (p : Ledger) (region market t : ℕ) : Type 0 where
   pub trigger : ℕ
   pub earlier : trigger < t

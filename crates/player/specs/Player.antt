@@ -9,7 +9,7 @@ use Rattle.records.specs.Reading.{opens}
 use Rattle.replay.specs.Replay.{sizeIn}
 use Rattle.replay.specs.Promise.{Sizes}
 
--- "at most 65,536 bytes and 16,384 ring places; longer: refused 29"
+-- more than 65,536 bytes, or an opening that asks for more than 16,384 places of a ring: the program says 29
 unfoldable pub tooLarge : List ℕ → Bool
 tooLarge c = pick (ltb 65536 (length c)) true (pick (opens c) (ltb 16384 (sizeIn c)) false)
 

@@ -57,7 +57,7 @@ roomOf s = record { ring = length (s .ring); numbers = length (s .numbers); fact
 abbrev pub playable : List ℕ → State → Bool
 playable c s = goes (roomOf s) c (s .at) (length (s .answers) - s .out)
 
--- "Each call appends an answer record": the state after it, with this book
+-- a call that is played appends its answer's record: the state after it, with this book
 abbrev pub says : List ℕ → State → Book → List ℕ → State
 says c s b answer = record {
   book = b;
@@ -103,7 +103,7 @@ reports c s o = says c s (o .book) (reportRecord (o .numbers))
 abbrev pub report : List ℕ → State → State
 report c s = reports c s (Report.reported (s .book) (regionIn c (s .at)) (marketIn c (s .at)))
 
--- ---- an entry: "played with a ring part of that length", and a table that holds what its record says
+-- ---- an entry: it is lent the first places of the book's ring, as many as its record says, and a table that holds what its record says
 abbrev pub enteredAt : List ℕ → ℕ → Book → List ℤ → Entering.Outcome
 enteredAt c at b ring = Entering.entered b (take (lengthsAt c at .ring) ring) (entryNumber c at) (entryAt c at) (tableAt c at)
 
@@ -127,7 +127,7 @@ enters c s o = record {
 abbrev pub entry : List ℕ → State → State
 entry c s = enters c s (enteredAt c (s .at) (s .book) (s .ring))
 
--- ---- a restart: "store, then load into the other ring, which is then the book's". Refused, the book and its ring stay
+-- ---- a restart: the book is stored, then loaded into the other ring, which is then the book's. Refused, the book and its ring stay
 abbrev pub reload : Storing.Outcome → List ℤ → Loading.Outcome
 reload o other = Loading.loaded (take (o .length) (o .buffer)) other
 

@@ -5,7 +5,7 @@ use Prim.Native.Nat.{ℕ, _≤_}
 use lib.IntN.{ℤ, pos, _*ℤ_}
 use Rattle.pricing.specs.Rounding.{rounded}
 
--- "a cap limit c of Y gives X the limit c × 10,000 / factor, and a floor limit f of X gives Y f × factor / 10,000.
+-- "a cap limit c of Y gives X the limit c × 10,000 / factor, and a floor limit f of X gives Y f × factor / 10,000. ..
 -- Each link rounds to the nearest cent, half away from zero." `caps` tells a cap limit (true) from a floor limit (false)
 unfoldable pub carried : Bool → ℕ → ℤ → ℤ
 carried true factor limit = rounded (limit *ℤ pos 10000) factor

@@ -26,14 +26,14 @@ numbersAt c at n = tabulate n (λ i. numberAt c (at + 4 * i) 4)
 abbrev pub bytesAt : List ℕ → ℕ → ℕ → List ℕ
 bytesAt c at n = take n (drop at c)
 
--- ---- "length (4, the whole record), kind (2)"
+-- ---- a record begins with its length, four bytes, and its kind, two
 abbrev pub sizeAt : List ℕ → ℕ → ℕ
 sizeAt c at = numberAt c at 4
 
 abbrev pub kindAt : List ℕ → ℕ → ℕ
 kindAt c at = numberAt c (at + 4) 2
 
--- ---- "64 opening    R(1) S(1) W(2) H(1) zero(1) first(2) parents(8) threshold(8) cap(4) floor(4)", the first record
+-- ---- the opening, kind 64, which is the first record: its fields end to end, byte 11 is zero
 abbrev pub openingSize : ℕ
 openingSize = 38
 
@@ -56,7 +56,7 @@ settingsIn c = record {
 unfoldable pub opens : List ℕ → Bool
 opens c = leb openingSize (length c) && (eqb (sizeAt c 0) openingSize && (eqb (kindAt c 0) 64 && eqb (numberAt c 11 1) 0))
 
--- ---- "65 entry      number(4) day kind(1) zero(1), lengths of prices, marks, flows, factors, schedule, table, ring (4 each)"
+-- ---- an entry, kind 65: number, day kind, a zero byte, and the lengths of prices, marks, flows, factors, schedule, table and ring
 abbrev pub lengthsAt : List ℕ → ℕ → Lengths
 lengthsAt c at = record {
   prices = numberAt c (at + 12) 4;
@@ -68,7 +68,7 @@ lengthsAt c at = record {
   ring = numberAt c (at + 36) 4;
 }
 
--- "then the contents of the first six in that order (marks 1 byte each, all others 4)": where each begins in the record
+-- "the contents of the first six in that order, marks a byte each, all others 4": where each begins in the record
 abbrev pub pricesFrom : ℕ
 pricesFrom = 40
 
@@ -134,7 +134,7 @@ sizeFor c at kind =
     (pick (leb 66 kind && leb kind 68) 14
     (pick (eqb kind 69) 6 0))
 
--- the length of the whole record of a call at a place, 0 where none stands: "A record that is cut short or unknown ends the replay"
+-- the length of the whole record of a call at a place, 0 where none stands; there the replay ends
 unfoldable pub callSize : List ℕ → ℕ → ℕ
 callSize c at =
     pick (ltb (length c - at) 6) 0

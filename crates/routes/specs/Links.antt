@@ -24,7 +24,7 @@ powerAt parents flows factors R k =
 abbrev pub powersOf : List ℕ → List ℤ → List ℕ → List ℕ
 powersOf parents flows factors = tabulate 64 (powerAt parents flows factors (length flows))
 
--- the factor of the link over which x takes a limit of y: "Where power goes from X to Y, a cap limit of Y gives X the
--- limit .., and a floor limit of X gives Y .."
+-- the factor of the link over which x takes a limit of y: "Where power goes from X to Y, a cap limit c of Y gives X the
+-- limit .., and a floor limit f of X gives Y .."
 abbrev pub step : Bool → (ℕ → ℕ → ℕ) → ℕ → ℕ → ℕ
 step caps power x y = pick caps (power x y) (power y x)
