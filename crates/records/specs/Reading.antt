@@ -68,7 +68,7 @@ lengthsAt c at = record {
   ring = numberAt c (at + 36) 4;
 }
 
--- "the contents of the first six in that order, marks a byte each, all others 4": where each begins in the record
+-- the contents of the first six stand in that order, marks a byte each, all others four: where each begins in the record
 abbrev pub pricesFrom : ℕ
 pricesFrom = 40
 

@@ -10,7 +10,7 @@ use Rattle.pricing.specs.Verdict.{Verdict}
 use Rattle.book.specs.Report.{Numbers}
 use Rattle.head.specs.Layout.{words}
 
--- "length (4), the call's kind (2), number (4), place (4), both 0 for an acceptance"
+-- an answer begins with its length, four bytes, the call's kind, two, and number and place, four each, both 0 for an acceptance
 unfoldable pub headOf : ℕ → ℕ → Verdict → List ℕ
 headOf size kind v = le 4 size ++ (le 2 kind ++ (le 4 (v .number) ++ le 4 (v .place)))
 
@@ -18,11 +18,11 @@ headOf size kind v = le 4 size ++ (le 2 kind ++ (le 4 (v .number) ++ le 4 (v .pl
 abbrev pub plainRecord : ℕ → Verdict → List ℕ
 plainRecord kind v = headOf 14 kind v
 
--- "entry: count (4), and the table as it then stands (4 each)"
+-- of an entry: the count, four bytes, and the table as it then stands, four each
 abbrev pub entryRecord : Verdict → ℕ → List ℤ → List ℕ
 entryRecord v count table = headOf (18 + 4 * length table) 65 v ++ (le 4 count ++ words table)
 
--- "report: sum (8), prices counted (4), period mark (4), entries taken (4)"
+-- of a report: the sum, eight bytes, prices counted, period mark and entries taken, four each
 unfoldable pub valuesOf : Numbers → List ℕ
 valuesOf n = le 8 (ofZ w64 (n .sum)) ++ (le 4 (n .counted) ++ (le 4 (n .mark) ++ le 4 (n .entries)))
 

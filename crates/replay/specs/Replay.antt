@@ -29,7 +29,7 @@ turns zero c s t = t
 turns (suc n) c s t = pick (playable c s) (turns n c (step c s) (turn t (swaps c s))) t
 
 -- ---- the opening
--- how many places of a ring a book of this size is lent: "or all of it where it has fewer"
+-- how many places of a ring a book of this size is lent: all of it where it has fewer
 abbrev pub partOf : ℕ → ℕ → ℕ
 partOf size room = pick (leb size room) size room
 
