@@ -117,7 +117,7 @@ fn lengths_ok(
 }
 
 // 10 to 17, in order: what the entry is refused for, or the acceptance.
-pub fn enter_verdict(
+pub(crate) fn enter_verdict(
     book: Book,
     ring: usize,
     number: u32,

@@ -6,7 +6,7 @@ ghost use lib.Signed.{_≤ℤ_};
 ghost use Rattle.pricing.specs.Rounding.{nearest, rounded};
 
 // n / d, half up. The ranges leave room for 2 × n + d.
-pub fn nearest(n: u64, d: u64) -> u64
+pub(crate) fn nearest(n: u64, d: u64) -> u64
     requires { ⌜ (n ≤ 2 ^ 62) × ((1 ≤ d) × (d ≤ 2 ^ 62)) ⌝ }
     ensures { λ r. ⌜ r ≡ nearest n d ⌝ }
 {

@@ -9,7 +9,7 @@ ghost use Rattle.sheet.specs.Put.{Put};
 ghost use Rattle.sheet.specs.Sheet.{lineOf, refusedText};
 
 // The bytes of `text`.
-pub fn put_text(text: &[u8], at: usize, out: &mut [u8]) -> usize
+pub(crate) fn put_text(text: &[u8], at: usize, out: &mut [u8]) -> usize
     requires { ⌜ at + length (now text) ≤ length (now out) ⌝ }
     ensures { λ r. ⌜ Put (now (text .entry)) at r (now (out .entry)) (now (out .exit)) ⌝ }
 {
@@ -42,7 +42,7 @@ fn put_sum(cents: i64, at: usize, out: &mut [u8]) -> usize
 }
 
 // A line of the sheet.
-pub fn put_line(
+pub(crate) fn put_line(
     region: u8,
     market: u8,
     counted: u16,
@@ -63,7 +63,7 @@ pub fn put_line(
 }
 
 // "refused" and the number, as the first bytes.
-pub fn put_refused(number: u32, out: &mut [u8]) -> usize
+pub(crate) fn put_refused(number: u32, out: &mut [u8]) -> usize
     requires { ⌜ 19 ≤ length (now out) ⌝ }
     ensures { λ r. ⌜ Put (refusedText number) 0 r (now (out .entry)) (now (out .exit)) ⌝ }
 {
