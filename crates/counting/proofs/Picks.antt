@@ -9,6 +9,11 @@ pub same-pick : {A : Type 0} (t : Bool) (x : A) → pick t x x ≡ x
 same-pick true x = refl
 same-pick false x = refl
 
+-- what is chosen where the test holds matters only there
+pub pick-same : {A : Type 0} (t : Bool) (x y z : A) → (t ≡ true → x ≡ y) → pick t x z ≡ pick t y z
+pick-same true x y z e = e refl
+pick-same false x y z e = refl
+
 pub pick-and : {A : Type 0} (s t : Bool) (x y : A) → pick s (pick t x y) y ≡ pick (s && t) x y
 pick-and true t x y = refl
 pick-and false t x y = refl

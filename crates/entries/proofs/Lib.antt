@@ -3,3 +3,4 @@ mod Afters
 pub mod Accepted
 pub mod Unmoved
 mod Verdicts
+pub mod Unused

@@ -1,3 +1,4 @@
 pub mod Checking
 pub mod Entering
 pub mod Working
+pub mod Unused

@@ -76,7 +76,17 @@ module _ (b : Book) (ring : List ℤ) (buffer : List ℕ) (t : Typed b) (e : isA
       rw image-bytes
       (other-ring (imageOf b ring) g (load-back b ring n t ok (ringSize (b .regions) (b .services) (b .window)) refl .head) (rw (head-is b ring n t ok) h))
 
-  -- and that is the same book
+  -- rule 10 accepts that book, and its arrays and ring have their lengths
+  pub anew-valid : valid (anew b) ≡ true
+  anew-valid = is-valid (anew b) (valid-anew b (ok .book) (b .sums) (ok .book .sum) (ok .book .no-sum))
+
+  pub anew-typed : Typed (anew b)
+  anew-typed = record { parents = t .parents; counts = t .counts; sums = t .sums; marks = t .marks }
+
+  pub relaid-length : length (relaid b ring) ≡ ringSize (b .regions) (b .services) (b .window)
+  relaid-length = length-laid b (inOrder b ring) (λ q h. length-run _ (countAt b q) 0) (count-of b (ok .book))
+
+  -- and it is the same book
   pub anew-same : Same b ring (anew b) (relaid b ring)
   anew-same = record {
     regions = refl;
@@ -93,17 +103,11 @@ module _ (b : Book) (ring : List ℤ) (buffer : List ℕ) (t : Typed b) (e : isA
     sums = refl;
     marks = refl;
     prices = λ q h. sym (order-anew b (ok .book) (b .sums) (inOrder b ring) (λ p k. length-run _ (countAt b p) 0) q h);
+    ring-size = ok .ring-size;
+    ring-size′ = relaid-length;
+    accepted = is-valid b (ok .book);
+    accepted′ = anew-valid;
   }
-
-  -- which rule 10 accepts, and whose arrays and ring have their lengths
-  pub anew-valid : valid (anew b) ≡ true
-  anew-valid = is-valid (anew b) (valid-anew b (ok .book) (b .sums) (ok .book .sum) (ok .book .no-sum))
-
-  pub anew-typed : Typed (anew b)
-  anew-typed = record { parents = t .parents; counts = t .counts; sums = t .sums; marks = t .marks }
-
-  pub relaid-length : length (relaid b ring) ≡ ringSize (b .regions) (b .services) (b .window)
-  relaid-length = length-laid b (inOrder b ring) (λ q h. length-run _ (countAt b q) 0) (count-of b (ok .book))
 
   pub stored-loads-same : (g : List ℤ) → length g ≡ ringSize (b .regions) (b .services) (b .window)
       → Same b ring (loaded (take (lengthOf b) (stored b ring buffer .buffer)) g .book) (loaded (take (lengthOf b) (stored b ring buffer .buffer)) g .ring)
@@ -139,8 +143,10 @@ module _ (bytes : List ℕ) (ring : List ℤ) (e : isAccepted (loaded bytes ring
   loaded-typed = typed-from bytes (length ring) good
 
 -- ---- 4. "Two books are the same if ..": an equivalence, and same books, if rule 10 accepts both, are told apart by no report
--- and by no store (but for the book that it hands back)
-pub same-reflexive : (b : Book) (ring : List ℤ) → Same b ring b ring
+-- and by no store (but for the book that it hands back). Reflexive on books that rule 10 accepts, with rings of their length: only
+-- such are the same as any
+pub same-reflexive : (b : Book) (ring : List ℤ) → valid b ≡ true
+    → length ring ≡ ringSize (b .regions) (b .services) (b .window) → Same b ring b ring
 same-reflexive = sameness.same-refl
 
 module _ {a b : Book} {r s : List ℤ} (p : Same a r b s) where

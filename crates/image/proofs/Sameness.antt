@@ -22,8 +22,10 @@ use Rattle.head.proofs.Lists.{joined-same}
 use Rattle.image.proofs.Prices.{prices-ok, ok-prices}
 
 -- ---- an equivalence
-pub same-refl : (b : Book) (ring : List ℤ) → Same b ring b ring
-same-refl b ring = record {
+-- sameness is of books that rule 10 accepts with rings of their length, so reflexivity asks for both
+pub same-refl : (b : Book) (ring : List ℤ) → valid b ≡ true
+    → length ring ≡ ringSize (b .regions) (b .services) (b .window) → Same b ring b ring
+same-refl b ring v n = record {
   regions = refl;
   services = refl;
   window = refl;
@@ -38,6 +40,10 @@ same-refl b ring = record {
   sums = refl;
   marks = refl;
   prices = λ q h. refl;
+  ring-size = n;
+  ring-size′ = n;
+  accepted = v;
+  accepted′ = v;
 }
 
 module _ {a b : Book} {r s : List ℤ} (p : Same a r b s) where
@@ -60,6 +66,10 @@ module _ {a b : Book} {r s : List ℤ} (p : Same a r b s) where
     sums = sym (p .sums);
     marks = sym (p .marks);
     prices = λ q h. sym (p .prices q (omega (arith, markets-same)));
+    ring-size = p .ring-size′;
+    ring-size′ = p .ring-size;
+    accepted = p .accepted′;
+    accepted′ = p .accepted;
   }
 
   pub same-trans : {c : Book} {t : List ℤ} → Same b s c t → Same a r c t
@@ -78,6 +88,10 @@ module _ {a b : Book} {r s : List ℤ} (p : Same a r b s) where
     sums = p .sums ∙ k .sums;
     marks = p .marks ∙ k .marks;
     prices = λ q h. p .prices q h ∙ k .prices q (omega (arith, markets-same));
+    ring-size = p .ring-size;
+    ring-size′ = k .ring-size′;
+    accepted = p .accepted;
+    accepted′ = k .accepted′;
   }
 
 -- ---- the same book but for its next places

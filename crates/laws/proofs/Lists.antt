@@ -299,6 +299,13 @@ unfolding firstOf
 firstOf-none zero t all = refl
 firstOf-none (suc n) t all = rw (all zero (omega arith), firstOf-none n (λ k. t (suc k)) (λ k p. all (suc k) (omega arith)))
 
+-- two tests that agree below n
+pub firstOf-same : (n : ℕ) (t u : ℕ → Bool) → ((k : ℕ) → k < n → t k ≡ u k) → firstOf n t ≡ firstOf n u
+unfolding firstOf
+firstOf-same zero t u e = refl
+firstOf-same (suc n) t u e =
+    rw (e zero (omega arith), firstOf-same n (λ k. t (suc k)) (λ k. u (suc k)) (λ k h. e (suc k) (omega arith)))
+
 -- what was passed over failed the test
 pub firstOf-passed : (n : ℕ) (t : ℕ → Bool) (k : ℕ) → k < firstOf n t → t k ≡ false
 unfolding firstOf

@@ -1,17 +1,22 @@
 -- What follows from DEMAND 3 and P's definitions: over every list of calls 10 and 22 never occur, a refused call answers zeros and
--- changes nothing, and restarts make no difference. Assumes nothing.
+-- changes nothing, restarts make no difference, and at every point a restart is accepted. Assumes nothing.
 use mathlib.Core.Path.{_≡_, refl, sym, ap, ap₂, _∙_, subst}
 use mathlib.Core.Bool.{Bool, true, false, not, _&&_}
-use mathlib.Core.List.{List, [], _∷_}
-use Prim.Native.Nat.{ℕ}
+use mathlib.Core.List.{List, [], _∷_, _++_}
+use Prim.Native.Nat.{ℕ, zero, suc, _+_, _*_, _≤_}
+use native.Mathlib.Nat.{mul-assoc, mul-comm, mul-le-mul-left, suc-mul}
+use native.Mathlib.Omega.{arith}
+use borrow.Author.Tests.{le-ltb, eq-eqb}
 use lib.Dec.{T, eqb, leb, ltb}
 use lib.IntN.{ℤ}
-use lib.ListN.{length, take}
+use lib.ListN.{length, getD, take, drop}
 use Rattle.laws.specs.Base.{pick}
 use Rattle.laws.proofs.Tests.{by-test, true-is}
-use Rattle.pricing.specs.Verdict.{Verdict, refused, refusedAt}
+use Rattle.laws.proofs.Lists.{lastN-length}
+use Rattle.pricing.specs.Verdict.{Verdict, accepted, refused, refusedAt}
 use Rattle.pricing.specs.Holding.{limitsOk}
 use Rattle.book.specs.declared.record.Book.{Book}
+use Rattle.book.specs.declared.record.Settings.{Settings}
 use Rattle.book.specs.Record.{marketsOf, tableSize, ringSize, isAccepted}
 use Rattle.book.specs.Validity.{thresholdOk, valid}
 use Rattle.book.specs.Setting.{thresholdVerdict, limitsVerdict, withSettings, changed, setThreshold, setLimits}
@@ -26,13 +31,14 @@ use Rattle.image.specs.Storing.{storeVerdict, stored}
 use Rattle.image.specs.Loading as Loading
 use Rattle.image.specs.Loading.{loaded}
 use Rattle.ledger.specs.Calls.{Call, entry, threshold, limits, report, restart, Answer, entered, set, reported, answers, verdictIn, Never, refusedAnswer, Zeros, withoutRestarts, dropRestarts}
+use Rattle.ledger.specs.Calls.{restarted, Step, after}
 use Rattle.ledger.specs.Ledger as Ledger
-use Rattle.ledger.specs.Ledger.{Ledger, interval, taken, imageLength, reportOf, restartVerdict}
+use Rattle.ledger.specs.Ledger.{Ledger, interval, taken, unmarkedPrices, entriesOf, countsTo, imageLength, reportOf, restartVerdict}
 use Rattle.ledger.specs.Book as Book
 use Rattle.ledger.specs.Book.{Held, isOwn}
 use Rattle.ledger.specs.Demand.{settingsOf, opening, Demand-3}
 use Rattle.ledger.proofs.Checks.{entered-accepted, entered-refused}
-use Rattle.ledger.proofs.Theorem.{demand-3}
+use Rattle.ledger.proofs.Theorem.{settings-after, demand-3}
 
 -- ---- 10 and 22
 -- a verdict by neither number
@@ -136,6 +142,41 @@ restarts-p (limits c f ∷ L) p = ap (λ (l : List Answer). set (limitsVerdict c
 restarts-p (report r m ∷ L) p = ap (λ (l : List Answer). reported (reportOf p r m) ∷ l) (restarts-p L p)
 restarts-p (restart buffer ring ∷ L) p = restarts-p L p
 
+-- no region counts more than W prices, so that an image is at most 148 + 4 × R × M × W bytes long
+counts-most : (p : Ledger) (n : ℕ) → countsTo p n ≤ n * p .settings .window
+unfolding countsTo
+counts-most p zero = omega arith
+counts-most p (suc n) =
+    let W = p .settings .window in
+    let prices = unmarkedPrices (marketsOf (p .settings .services)) n 0 (take (taken p) (entriesOf (p .items))) in
+    omega (arith, counts-most p n, lastN-length W prices, suc-mul n W)
+
+abbrev placesOf : Settings → ℕ
+placesOf t = ringSize (t .regions) (t .services) (t .window)
+
+image-most : (p : Ledger) → imageLength p ≤ 148 + 4 * placesOf (p .settings)
+image-most p =
+    let R = p .settings .regions in
+    let M = marketsOf (p .settings .services) in
+    let W = p .settings .window in
+    let h : M * countsTo p R ≤ M * (R * W) = mul-le-mul-left M (counts-most p R) in
+    let e : M * (R * W) ≡ R * M * W = sym (mul-assoc M R W) ∙ ap (λ (k : ℕ). k * W) (mul-comm M R) in
+    omega arith
+
+-- "P accepts both calls and does nothing"
+restart-p : (p : Ledger) (buffer : List ℕ) (ring : List ℤ) → length ring ≡ placesOf (p .settings) → imageLength p ≤ length buffer
+    → Ledger.play p (restart buffer ring) ≡ record { state = p; answer = restarted accepted }
+unfolding Ledger.play restartVerdict
+restart-p p buffer ring e h =
+    rw (le-ltb (length buffer) (imageLength p) h, eq-eqb (length ring) (placesOf (p .settings)) e)
+
+-- two machines that answer a list of calls alike answer its last call alike
+last-alike : {S T : Type 0} (f : S → Call → Step S) (g : T → Call → Step T) (L : List Call) (c : Call) (s : S) (t : T)
+    → answers f s (L ++ c ∷ []) ≡ answers g t (L ++ c ∷ []) → f (after f s L) c .answer ≡ g (after g t L) c .answer
+unfolding answers after
+last-alike f g [] c s t e = ap (λ (l : List Answer). getD l 0 (set accepted)) e
+last-alike f g (d ∷ L) c s t e = last-alike f g L c (f s d .state) (g t d .state) (ap (λ (l : List Answer). drop 1 l) e)
+
 -- and a refused call leaves the book and its ring as they were: from the book's definitions
 refused-entry : (s : Held) (g : List ℤ) (number : ℕ) (e : Entry) (table : List ℤ)
     → isAccepted (Entering.entered (s .book) (pick (isOwn (s .book) g) (s .ring) g) number e table .verdict) ≡ false
@@ -201,3 +242,30 @@ module _ (regions services window halves first : ℕ) (parents : ℕ → ℕ) (�
   -- restarts make no difference: the other calls are answered as if none had been made
   pub restarts-alike : (L : List Call) → dropRestarts (answers Book.play start L) ≡ answers Book.play start (withoutRestarts L)
   restarts-alike L = ap dropRestarts (same L) ∙ restarts-p L beginning ∙ sym (same (withoutRestarts L))
+
+  -- "A restart is an image stored into a long enough buffer and loaded, from exactly its bytes, into another ring of the right length,
+  -- with which L goes on; P accepts both calls and does nothing": at every point of every L, whatever buffer and ring hold. Long enough
+  -- is the length of the image that is stored there
+  pub restart-accepted : (L : List Call) (buffer : List ℕ) (other : List ℤ)
+      → length other ≡ ringSize regions services window → imageLength (after Ledger.play beginning L) ≤ length buffer
+      → (Book.play (after Book.play start L) (restart buffer other) .answer ≡ restarted accepted)
+      × (Ledger.play (after Ledger.play beginning L) (restart buffer other)
+      ≡ record { state = after Ledger.play beginning L; answer = restarted accepted })
+  restart-accepted L buffer other e h =
+      let q = after Ledger.play beginning L in
+      let size : length other ≡ placesOf (q .settings) = e ∙ ap placesOf (sym (settings-after L beginning)) in
+      let p = restart-p q buffer other size h in (
+        last-alike Book.play Ledger.play L (restart buffer other) start beginning (same (L ++ restart buffer other ∷ []))
+            ∙ ap (λ (x : Step Ledger). x .answer) p,
+        p,
+      )
+
+  -- and 148 + 4 × R × M × W bytes are long enough at every point
+  pub restart-always : (L : List Call) (buffer : List ℕ) (other : List ℤ)
+      → length other ≡ ringSize regions services window → 148 + 4 * ringSize regions services window ≤ length buffer
+      → (Book.play (after Book.play start L) (restart buffer other) .answer ≡ restarted accepted)
+      × (Ledger.play (after Ledger.play beginning L) (restart buffer other)
+      ≡ record { state = after Ledger.play beginning L; answer = restarted accepted })
+  restart-always L buffer other e h =
+      restart-accepted L buffer other e
+      (omega (arith, image-most (after Ledger.play beginning L), ap placesOf (settings-after L beginning)))

@@ -16,7 +16,6 @@ use Rattle.publishing.specs.Entry.{Entry, Terms-ok, flat, schedulePlace}
 use Rattle.publishing.specs.Effective.{isMarked, scheduled, effective}
 use Rattle.publishing.specs.Bounds.{hasLimit, limit}
 use Rattle.publishing.specs.Published.{published, tableOf, countOf}
-use Rattle.publishing.proofs.Limits.{parent-read}
 
 -- what is used: the kind and the marks; prices of unmarked regions, and the schedule's numbers at this interval's place of marked ones;
 -- the flow and the factor of a region that has a parent
@@ -27,7 +26,7 @@ pub record Alike (t : Terms) (a b : Entry) : Type 0 where
       → getD (a .offer .prices) (flat t r m) (pos 0) ≡ getD (b .offer .prices) (flat t r m) (pos 0)
   pub schedule : (r m : ℕ) → r < t .regions → m < t .markets → isMarked (a .offer) r ≡ true
       → getD (a .offer .schedule) (schedulePlace t (a .offer .kind) r m) (pos 0) ≡ getD (b .offer .schedule) (schedulePlace t (a .offer .kind) r m) (pos 0)
-  pub linked : (r : ℕ) → r < t .regions → (getD (t .parents) r 0 ≡ 255 → ⊥)
+  pub linked : (r : ℕ) → r < t .regions → (getD (t .parents) r 255 ≡ 255 → ⊥)
       → (getD (a .flows) r (pos 0) ≡ getD (b .flows) r (pos 0)) × (getD (a .factors) r 0 ≡ getD (b .factors) r 0)
 
 module _ (t : Terms) (ok : Terms-ok t) (marks : List ℕ) (a b : Entry) (same : Alike t a b) where
@@ -52,7 +51,7 @@ module _ (t : Terms) (ok : Terms-ok t) (marks : List ℕ) (a b : Entry) (same : 
   unfolding limit
   bound-same caps r h =
       limit-same caps _ _ _ _ (t .regions)
-      (power-same (t .parents) (t .regions) (omega (arith, ok .regions .1)) (a .flows) (b .flows) (a .factors) (b .factors) (λ x i c. same .linked x i (λ q. c (parent-read (t .parents) x q))))
+      (power-same (t .parents) (t .regions) (omega (arith, ok .regions .1)) (a .flows) (b .flows) (a .factors) (b .factors) (same .linked))
       (λ x i. rw (source-same caps x i)) r h
 
   pub published-same : (r m : ℕ) → r < t .regions → m < t .markets → published t marks a r m ≡ published t marks b r m
