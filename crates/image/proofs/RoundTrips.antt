@@ -127,7 +127,13 @@ module _ (bytes : List ℕ) (ring : List ℤ) (e : isAccepted (loaded bytes ring
       ≡ record { verdict = accepted; length = length bytes; book = bookFrom bytes; buffer = bytes ++ drop (length bytes) buffer }
   store-of-load small buffer h =
       ok-stored (bookFrom bytes) (ringFrom bytes) buffer (store-from bytes (length ring) good (length buffer) h)
-      ∙ rw (length-from bytes (length ring) good, there bytes (length ring) good small)
+      ∙ rw (length-from bytes (length ring) good)
+      (λ i. record {
+        verdict = accepted;
+        length = length bytes;
+        book = bookFrom bytes;
+        buffer = there bytes (length ring) good small i ++ drop (length bytes) buffer;
+      })
 
   -- 3. a book just loaded is accepted by rule 10, its ring has its length, it never meets 22, and its arrays have their lengths
   pub loaded-valid : valid (bookFrom bytes) ≡ true

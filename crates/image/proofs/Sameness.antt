@@ -173,8 +173,10 @@ module _ (b : Book) (nexts : List ℕ) (r s : List ℤ) (prices : (q : ℕ) → 
   unfolding stored
   nexts-stored v w e buffer =
       let t = storeVerdict b r (length buffer) in
-      rw (← nexts-verdict v w e (length buffer), ← nexts-image)
-      (handed-back (isAccepted t) t (lengthOf b) (imageOf b r ++ drop (lengthOf b) buffer) buffer b (withNexts b nexts))
+      let n = lengthOf b in
+      rw (← nexts-verdict v w e (length buffer))
+      (ap (λ (image : List ℕ). outcomeOf (isAccepted t) t n (image ++ drop n buffer) buffer (withNexts b nexts)) (sym nexts-image)
+      ∙ handed-back (isAccepted t) t n (imageOf b r ++ drop n buffer) buffer b (withNexts b nexts))
 
 pub same-stored : {a b : Book} {r s : List ℤ} → Same a r b s → valid a ≡ true → valid b ≡ true
     → length r ≡ ringSize (a .regions) (a .services) (a .window) → length s ≡ ringSize (b .regions) (b .services) (b .window) → (buffer : List ℕ)
