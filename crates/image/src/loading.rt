@@ -129,7 +129,8 @@ fn search_bad(bytes: &[u8], from: usize, count: usize, market: usize) -> usize
     i
 }
 
-// The same. Prices are searched one by one only where they are not all in range: the test of all is quicker.
+// The first of `count` prices from `from` that is out of range, or `count`. They are searched one by one only where they are not all in
+// range: the test of all is quicker.
 fn bad_in(bytes: &[u8], from: usize, count: usize, market: usize) -> usize
     requires { ⌜ from + 4 * count ≤ length (now bytes) ⌝ }
     ensures { λ x. ⌜ x ≡ firstOf count (λ i. not (inRange (isEnergy market) (priceAt (now (bytes .entry)) from i))) ⌝ }

@@ -13,14 +13,14 @@ use lib.ListN.{length, getD, take, drop}
 use Rattle.laws.specs.Base.{pick}
 use Rattle.laws.proofs.Tests.{by-test, true-is}
 use Rattle.laws.proofs.Lists.{lastN-length}
-use Rattle.pricing.specs.Verdict.{Verdict, accepted, refused, refusedAt}
+use Rattle.pricing.specs.Verdict.{Verdict, accepted, refusedAt}
 use Rattle.pricing.specs.Holding.{limitsOk}
 use Rattle.book.specs.declared.record.Book.{Book}
 use Rattle.book.specs.declared.record.Settings.{Settings}
 use Rattle.book.specs.Record.{marketsOf, tableSize, ringSize, isAccepted}
 use Rattle.book.specs.Validity.{thresholdOk, valid}
 use Rattle.book.specs.Setting.{thresholdVerdict, limitsVerdict, withSettings, changed, setThreshold, setLimits}
-use Rattle.book.specs.Report.{nothing, reportVerdict}
+use Rattle.book.specs.Report.{reportVerdict}
 use Rattle.book.specs.Opening as Opening
 use Rattle.publishing.specs.Entry.{Entry}
 use Rattle.entries.specs.Checking.{Shape, lengthsOk, firstMark, firstPrice, firstFactor, entryVerdict}

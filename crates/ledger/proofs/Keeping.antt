@@ -1,5 +1,5 @@
--- "On a book that rule 10 accepts, with a ring whose counted prices are in range and whose totals are the sums, an accepted entry
--- gives such a book again." Assumes nothing.
+-- On a book that rule 10 accepts, with a ring whose counted prices are in range and whose totals are the sums, an accepted entry
+-- gives such a book again. Assumes nothing.
 use mathlib.Core.Path.{_≡_, sym, _∙_, subst}
 use mathlib.Core.Bool.{Bool, true, false}
 use mathlib.Core.List.{List, []}

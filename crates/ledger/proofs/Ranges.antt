@@ -1,4 +1,4 @@
--- A ring "whose counted prices are in range and whose totals are the sums": what `pricesOk` says, market by market. Assumes nothing.
+-- A ring whose counted prices are in range and whose totals are the sums: what `pricesOk` says, market by market. Assumes nothing.
 use mathlib.Core.Path.{_≡_, sym, ap₂, _∙_, subst}
 use mathlib.Core.Bool.{Bool, true, false, _&&_}
 use mathlib.Core.List.{List}
