@@ -179,6 +179,7 @@ pub fn replay(
     ensures { λ r. ⌜ outcome r (now (answers .exit)) (now (ring .exit)) (now (other .exit)) (now (image .exit)) (now (numbers .exit)) (now (factors .exit)) (now (table .exit)) ≡ replayed (now (calls .entry)) (lentOf (now (answers .entry)) (now (ring .entry)) (now (other .entry)) (now (image .entry)) (now (numbers .entry)) (now (factors .entry)) (now (table .entry))) ⌝ }
     ensures { λ r. ⌜ r ≡ length (promised (now (calls .entry)) (lentOf (now (answers .entry)) (now (ring .entry)) (now (other .entry)) (now (image .entry)) (now (numbers .entry)) (now (factors .entry)) (now (table .entry)))) ⌝ }
     ensures { λ r. ⌜ now (answers .exit) ≡ sets (now (answers .entry)) 0 (promised (now (calls .entry)) (lentOf (now (answers .entry)) (now (ring .entry)) (now (other .entry)) (now (image .entry)) (now (numbers .entry)) (now (factors .entry)) (now (table .entry)))) ⌝ }
+    ensures { λ r. ⌜ r ≤ length (now (answers .entry)) ⌝ }
 {
     if !opens(calls) {
         return 0;
