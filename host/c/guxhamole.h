@@ -43,7 +43,8 @@ uint32_t guxhamole_image_check(const uint8_t *image, size_t length);
    A refused call is answered with its number and place and changes nothing, and the replay goes on; a refused opening leaves a
    closed book, which refuses every call by 10. The replay ends after the last record, or before the first one that is not whole
    and well formed, whose contents don't fit the room lent for them, or whose answer doesn't fit.
-   Answers how many bytes of answers it wrote; the bytes after them stay. Fewer answers than calls say that it ended early.
+   Answers how many bytes of answers it wrote, never more than answers_length; the bytes after them stay. Fewer answers than
+   calls say that it ended early.
    What it leaves in ring, other, image, numbers, factors and table needs no keeping. */
 size_t guxhamole_replay(const uint8_t *calls, size_t calls_length,
                         uint8_t *answers, size_t answers_length,

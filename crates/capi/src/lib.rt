@@ -5,6 +5,7 @@ use pricing::indexing::Quarters;
 use pricing::indexing::indexed;
 use replay::replay;
 ghost use mathlib.Core.Path.{_≡_};
+ghost use Prim.Native.Nat.{_≤_};
 ghost use lib.ListN.{length};
 ghost use lib.Seq.{sets};
 ghost use Rattle.image.specs.Loading.{checked};
@@ -67,9 +68,17 @@ pub extern "C" fn guxhamole_replay(
     factors: &mut [u32],
     table: &mut [i32],
 ) -> usize
-    ensures { λ r. ⌜ outcome r (now (answers .exit)) (now (ring .exit)) (now (other .exit)) (now (image .exit)) (now (numbers .exit)) (now (factors .exit)) (now (table .exit)) ≡ replayed (now (calls .entry)) (lentOf (now (answers .entry)) (now (ring .entry)) (now (other .entry)) (now (image .entry)) (now (numbers .entry)) (now (factors .entry)) (now (table .entry))) ⌝ }
-    ensures { λ r. ⌜ r ≡ length (promised (now (calls .entry)) (lentOf (now (answers .entry)) (now (ring .entry)) (now (other .entry)) (now (image .entry)) (now (numbers .entry)) (now (factors .entry)) (now (table .entry)))) ⌝ }
-    ensures { λ r. ⌜ now (answers .exit) ≡ sets (now (answers .entry)) 0 (promised (now (calls .entry)) (lentOf (now (answers .entry)) (now (ring .entry)) (now (other .entry)) (now (image .entry)) (now (numbers .entry)) (now (factors .entry)) (now (table .entry)))) ⌝ }
+    ensures { λ r. ⌜ (let lent = lentOf (now (answers .entry)) (now (ring .entry)) (now (other .entry)) (now (image .entry))
+        (now (numbers .entry)) (now (factors .entry)) (now (table .entry)) in
+        outcome r (now (answers .exit)) (now (ring .exit)) (now (other .exit)) (now (image .exit)) (now (numbers .exit))
+        (now (factors .exit)) (now (table .exit)) ≡ replayed (now (calls .entry)) lent) ⌝ }
+    ensures { λ r. ⌜ (let lent = lentOf (now (answers .entry)) (now (ring .entry)) (now (other .entry)) (now (image .entry))
+        (now (numbers .entry)) (now (factors .entry)) (now (table .entry)) in
+        r ≡ length (promised (now (calls .entry)) lent)) ⌝ }
+    ensures { λ r. ⌜ (let lent = lentOf (now (answers .entry)) (now (ring .entry)) (now (other .entry)) (now (image .entry))
+        (now (numbers .entry)) (now (factors .entry)) (now (table .entry)) in
+        now (answers .exit) ≡ sets (now (answers .entry)) 0 (promised (now (calls .entry)) lent)) ⌝ }
+    ensures { λ r. ⌜ r ≤ length (now (answers .entry)) ⌝ }
 {
     replay(calls, answers, ring, other, image, numbers, factors, table)
 }

@@ -6,10 +6,9 @@ use lib.IntN.{ℤ}
 use lib.ListN.{length}
 use lib.Seq.{sets, length-sets}
 use Rattle.replay.specs.Replay as Replay
-use Rattle.replay.specs.Replay.{Outcome, replayed, lentOf, outcome}
+use Rattle.replay.specs.Replay.{replayed, lentOf, outcome}
 use Rattle.replay.specs.Promise.{sizesOf, promisedFor, promised}
 use Rattle.player.specs.Player.{lent}
-use Rattle.replay.proofs.Within.{written-within}
 
 module _ (c answers : List ℕ) (ring other : List ℤ) (image : List ℕ) (numbers : List ℤ) (factors : List ℕ) (table : List ℤ)
     (a : 163840 ≡ length answers) (r : 16384 ≡ length ring) (o : 16384 ≡ length other) (m : 65684 ≡ length image)
@@ -32,11 +31,11 @@ module _ (c answers : List ℕ) (ring other : List ℤ) (image : List ℕ) (numb
   for-lent = ap (promisedFor c) sizes
 
   pub played : (w : ℕ) (answers′ : List ℕ) (ring′ other′ : List ℤ) (image′ : List ℕ) (numbers′ : List ℤ) (factors′ : List ℕ) (table′ : List ℤ)
-      → (outcome w answers′ ring′ other′ image′ numbers′ factors′ table′ ≡ replayed c all) × ((w ≡ length (promised c all)) × (answers′ ≡ sets answers 0 (promised c all)))
+      → (outcome w answers′ ring′ other′ image′ numbers′ factors′ table′ ≡ replayed c all)
+      × ((w ≡ length (promised c all)) × ((answers′ ≡ sets answers 0 (promised c all)) × (w ≤ length answers)))
       → (w ≡ length (promisedFor c lent)) × ((answers′ ≡ sets answers 0 (promisedFor c lent)) × (w ≤ length answers′))
   played w answers′ ring′ other′ image′ numbers′ factors′ table′ h =
-      let same : length answers′ ≡ length answers = ap length (h .1 .1) ∙ length-sets answers 0 (promised c all) in
-      let k : w ≤ length answers = subst (λ (i : ℕ). i ≤ length answers) (sym (ap (λ (y : Outcome). y .written) (h .0))) (written-within c all) in (
+      let same : length answers′ ≡ length answers = ap length (h .1 .1 .0) ∙ length-sets answers 0 (promised c all) in (
         h .1 .0 ∙ ap length for-lent,
-        (h .1 .1 ∙ ap (sets answers 0) for-lent, subst (λ (i : ℕ). w ≤ i) (sym same) k),
+        (h .1 .1 .0 ∙ ap (sets answers 0) for-lent, subst (λ (i : ℕ). w ≤ i) (sym same) (h .1 .1 .1)),
       )

@@ -50,21 +50,21 @@ module _ (m : Lengths) (c : List ℕ) (s : State) where
   pub entry-says : kindAt c (s .at) ≡ 65
       → Says (Calls.entry (replicate (lengthsAt c (s .at) .ring) (pos 0)) (entryNumber c (s .at)) (entryAt c (s .at)) (tableAt c (s .at))) (entry c s) (18 + 4 * lengthsAt c (s .at) .table)
   unfolding callAt step answerSize
-  entry-says k = record { call-is = rw k; after-is = rw k; size-is = rw k }
+  entry-says k = record { call-is = rw k refl; after-is = rw k refl; size-is = rw k refl }
 
   pub threshold-says : kindAt c (s .at) ≡ 66 → Says (Calls.threshold (thresholdIn c (s .at))) (threshold c s) 14
   unfolding callAt step answerSize
-  threshold-says k = record { call-is = rw k; after-is = rw k; size-is = rw k }
+  threshold-says k = record { call-is = rw k refl; after-is = rw k refl; size-is = rw k refl }
 
   pub limits-says : kindAt c (s .at) ≡ 67 → Says (Calls.limits (capIn c (s .at)) (floorIn c (s .at))) (limits c s) 14
   unfolding callAt step answerSize
-  limits-says k = record { call-is = rw k; after-is = rw k; size-is = rw k }
+  limits-says k = record { call-is = rw k refl; after-is = rw k refl; size-is = rw k refl }
 
   pub report-says : kindAt c (s .at) ≡ 68 → Says (Calls.report (regionIn c (s .at)) (marketIn c (s .at))) (report c s) 34
   unfolding callAt step answerSize
-  report-says k = record { call-is = rw k; after-is = rw k; size-is = rw k }
+  report-says k = record { call-is = rw k refl; after-is = rw k refl; size-is = rw k refl }
 
   pub restart-says : eqb (kindAt c (s .at)) 65 ≡ false → eqb (kindAt c (s .at)) 66 ≡ false → eqb (kindAt c (s .at)) 67 ≡ false → eqb (kindAt c (s .at)) 68 ≡ false
       → Says (Calls.restart (replicate (m .image) 0) (replicate (m .other) (pos 0))) (restart c s) 14
   unfolding callAt step answerSize
-  restart-says e f g h = record { call-is = rw (e, f, g, h); after-is = rw (e, f, g, h); size-is = rw (e, h) }
+  restart-says e f g h = record { call-is = rw (e, f, g, h) refl; after-is = rw (e, f, g, h) refl; size-is = rw (e, h) refl }

@@ -36,7 +36,8 @@ ghost use Rattle.image.specs.Storing as Storing;
 ghost use Rattle.image.specs.Loading as Loading;
 ghost use Rattle.records.specs.Reading.{lengthsAt, entrySize, signedAt, factorsAt, tableAt, callSize, answerSize};
 ghost use Rattle.records.specs.Writing.{plainRecord, entryRecord, reportRecord};
-ghost use Rattle.playing.specs.Playing.{State, roomOf, thresholdIn, capIn, floorIn, regionIn, marketIn, step, swaps, stateOf, playable, enteredAt, enteredRecord, reload, restartVerdict, swapped, restartedBook, reloaded};
+ghost use Rattle.playing.specs.Playing.{stateOf, playable, step, swaps, thresholdIn, capIn, floorIn, regionIn, marketIn};
+ghost use Rattle.playing.specs.Playing.{enteredAt, enteredRecord, restartVerdict, swapped, restartedBook, reloaded};
 
 // The book after a call, and whether the rings have changed places.
 pub struct Played {
@@ -47,7 +48,8 @@ pub struct Played {
 fn play_threshold(book: Book, calls: &[u8], at: usize, answers: &mut [u8], out: usize) -> Book
     requires { ⌜ (at + 14 ≤ length (now calls)) × (out + 14 ≤ length (now answers)) ⌝ }
     ensures { λ r. ⌜ r ≡ setThreshold book (thresholdIn (now (calls .entry)) at) .book ⌝ }
-    ensures { λ r. ⌜ now (answers .exit) ≡ sets (now (answers .entry)) out (plainRecord 66 (setThreshold book (thresholdIn (now (calls .entry)) at) .verdict)) ⌝ }
+    ensures { λ r. ⌜ now (answers .exit) ≡ sets (now (answers .entry)) out
+        (plainRecord 66 (setThreshold book (thresholdIn (now (calls .entry)) at) .verdict)) ⌝ }
 {
     let changed = set_threshold(book, signed64(get(calls, at + 6, 8)));
     let answer = changed.answer;
@@ -58,7 +60,8 @@ fn play_threshold(book: Book, calls: &[u8], at: usize, answers: &mut [u8], out: 
 fn play_limits(book: Book, calls: &[u8], at: usize, answers: &mut [u8], out: usize) -> Book
     requires { ⌜ (at + 14 ≤ length (now calls)) × (out + 14 ≤ length (now answers)) ⌝ }
     ensures { λ r. ⌜ r ≡ setLimits book (capIn (now (calls .entry)) at) (floorIn (now (calls .entry)) at) .book ⌝ }
-    ensures { λ r. ⌜ now (answers .exit) ≡ sets (now (answers .entry)) out (plainRecord 67 (setLimits book (capIn (now (calls .entry)) at) (floorIn (now (calls .entry)) at) .verdict)) ⌝ }
+    ensures { λ r. ⌜ now (answers .exit) ≡ sets (now (answers .entry)) out
+        (plainRecord 67 (setLimits book (capIn (now (calls .entry)) at) (floorIn (now (calls .entry)) at) .verdict)) ⌝ }
 {
     let changed = set_limits(book, get_word(calls, at + 6), get_word(calls, at + 10));
     let answer = changed.answer;
@@ -69,7 +72,8 @@ fn play_limits(book: Book, calls: &[u8], at: usize, answers: &mut [u8], out: usi
 fn play_report(book: Book, calls: &[u8], at: usize, answers: &mut [u8], out: usize) -> Book
     requires { ⌜ (at + 14 ≤ length (now calls)) × (out + 34 ≤ length (now answers)) ⌝ }
     ensures { λ r. ⌜ r ≡ book ⌝ }
-    ensures { λ r. ⌜ now (answers .exit) ≡ sets (now (answers .entry)) out (reportRecord (reportOf book (regionIn (now (calls .entry)) at) (marketIn (now (calls .entry)) at))) ⌝ }
+    ensures { λ r. ⌜ now (answers .exit) ≡ sets (now (answers .entry)) out
+        (reportRecord (reportOf book (regionIn (now (calls .entry)) at) (marketIn (now (calls .entry)) at))) ⌝ }
 {
     let reported = report(book, get_u32(calls, at + 6), get_u32(calls, at + 10));
     let reading = reported.reading;
@@ -88,12 +92,16 @@ fn enter_read(
     factors: &[u32],
     table: &mut [i32],
 ) -> Entered
-    requires { ⌜ (lengths ≡ lengthsAt (now calls) at) × (at + entrySize lengths ≤ length (now calls)) × (lengths .ring ≤ length (now ring)) ⌝ }
-    requires { ⌜ (lengths .prices + lengths .flows + lengths .schedule ≤ length (now numbers)) × (lengths .factors ≤ length (now factors)) ⌝ }
+    requires { ⌜ (lengths ≡ lengthsAt (now calls) at) × (at + entrySize lengths ≤ length (now calls))
+        × (lengths .ring ≤ length (now ring)) ⌝ }
+    requires { ⌜ (lengths .prices + lengths .flows + lengths .schedule ≤ length (now numbers))
+        × (lengths .factors ≤ length (now factors)) ⌝ }
     requires { ⌜ take (lengths .prices + lengths .flows + lengths .schedule) (now numbers) ≡ signedAt (now calls) at ⌝ }
     requires { ⌜ (take (lengths .factors) (now factors) ≡ factorsAt (now calls) at) × (now table ≡ tableAt (now calls) at) ⌝ }
-    ensures { λ r. ⌜ Entering.outcome r (enteredAt (now (calls .entry)) at book (now (ring .entry)) .ring) (now (table .exit)) ≡ enteredAt (now (calls .entry)) at book (now (ring .entry)) ⌝ }
-    ensures { λ _. ⌜ now (ring .exit) ≡ enteredAt (now (calls .entry)) at book (now (ring .entry)) .ring ++ drop (lengths .ring) (now (ring .entry)) ⌝ }
+    ensures { λ r. ⌜ Entering.outcome r (enteredAt (now (calls .entry)) at book (now (ring .entry)) .ring) (now (table .exit))
+        ≡ enteredAt (now (calls .entry)) at book (now (ring .entry)) ⌝ }
+    ensures { λ _. ⌜ now (ring .exit) ≡ enteredAt (now (calls .entry)) at book (now (ring .entry)) .ring
+        ++ drop (lengths .ring) (now (ring .entry)) ⌝ }
 {
     let number = get_u32(calls, at + 6);
     let kind = get_u8(calls, at + 10);
@@ -131,15 +139,20 @@ fn play_entry(
     answers: &mut [u8],
     out: usize,
 ) -> Book
-    requires { ⌜ (at + 40 ≤ length (now calls)) × (at + entrySize (lengthsAt (now calls) at) ≤ length (now calls)) × (out + (18 + 4 * lengthsAt (now calls) at .table) ≤ length (now answers)) ⌝ }
-    requires { ⌜ (lengthsAt (now calls) at .prices + lengthsAt (now calls) at .flows + lengthsAt (now calls) at .schedule ≤ length (now numbers)) × (lengthsAt (now calls) at .factors ≤ length (now factors)) ⌝ }
+    requires { ⌜ (at + 40 ≤ length (now calls)) × (at + entrySize (lengthsAt (now calls) at) ≤ length (now calls))
+        × (out + (18 + 4 * lengthsAt (now calls) at .table) ≤ length (now answers)) ⌝ }
+    requires { ⌜ (lengthsAt (now calls) at .prices + lengthsAt (now calls) at .flows + lengthsAt (now calls) at .schedule
+        ≤ length (now numbers)) × (lengthsAt (now calls) at .factors ≤ length (now factors)) ⌝ }
     requires { ⌜ (lengthsAt (now calls) at .table ≤ length (now table)) × (lengthsAt (now calls) at .ring ≤ length (now ring)) ⌝ }
     ensures { λ r. ⌜ r ≡ enteredAt (now (calls .entry)) at book (now (ring .entry)) .book ⌝ }
-    ensures { λ _. ⌜ now (ring .exit) ≡ enteredAt (now (calls .entry)) at book (now (ring .entry)) .ring ++ drop (lengthsAt (now (calls .entry)) at .ring) (now (ring .entry)) ⌝ }
+    ensures { λ _. ⌜ now (ring .exit) ≡ enteredAt (now (calls .entry)) at book (now (ring .entry)) .ring
+        ++ drop (lengthsAt (now (calls .entry)) at .ring) (now (ring .entry)) ⌝ }
     ensures { λ _. ⌜ now (numbers .exit) ≡ sets (now (numbers .entry)) 0 (signedAt (now (calls .entry)) at) ⌝ }
     ensures { λ _. ⌜ now (factors .exit) ≡ sets (now (factors .entry)) 0 (factorsAt (now (calls .entry)) at) ⌝ }
-    ensures { λ _. ⌜ now (table .exit) ≡ enteredAt (now (calls .entry)) at book (now (ring .entry)) .table ++ drop (lengthsAt (now (calls .entry)) at .table) (now (table .entry)) ⌝ }
-    ensures { λ _. ⌜ now (answers .exit) ≡ sets (now (answers .entry)) out (enteredRecord (enteredAt (now (calls .entry)) at book (now (ring .entry)))) ⌝ }
+    ensures { λ _. ⌜ now (table .exit) ≡ enteredAt (now (calls .entry)) at book (now (ring .entry)) .table
+        ++ drop (lengthsAt (now (calls .entry)) at .table) (now (table .entry)) ⌝ }
+    ensures { λ _. ⌜ now (answers .exit) ≡ sets (now (answers .entry)) out
+        (enteredRecord (enteredAt (now (calls .entry)) at book (now (ring .entry)))) ⌝ }
 {
     let lengths = lengths_at(calls, at);
     read_entry(calls, at, lengths, numbers, factors, table);
@@ -162,9 +175,12 @@ fn play_load(
 ) -> Played
     requires { ⌜ (n ≤ length (now image)) × (out + 14 ≤ length (now answers)) ⌝ }
     ensures { λ r. ⌜ r .swapped ≡ isAccepted (Loading.loaded (take n (now (image .entry))) (now (other .entry)) .verdict) ⌝ }
-    ensures { λ r. ⌜ r .book ≡ pick (isAccepted (Loading.loaded (take n (now (image .entry))) (now (other .entry)) .verdict)) (Loading.loaded (take n (now (image .entry))) (now (other .entry)) .book) book ⌝ }
+    ensures { λ r. ⌜ r .book
+        ≡ pick (isAccepted (Loading.loaded (take n (now (image .entry))) (now (other .entry)) .verdict))
+        (Loading.loaded (take n (now (image .entry))) (now (other .entry)) .book) book ⌝ }
     ensures { λ _. ⌜ now (other .exit) ≡ Loading.loaded (take n (now (image .entry))) (now (other .entry)) .ring ⌝ }
-    ensures { λ _. ⌜ now (answers .exit) ≡ sets (now (answers .entry)) out (plainRecord 69 (Loading.loaded (take n (now (image .entry))) (now (other .entry)) .verdict)) ⌝ }
+    ensures { λ _. ⌜ now (answers .exit) ≡ sets (now (answers .entry)) out
+        (plainRecord 69 (Loading.loaded (take n (now (image .entry))) (now (other .entry)) .verdict)) ⌝ }
 {
     let loaded = load(&image[..n], other);
     let answer = loaded.answer;
@@ -195,10 +211,13 @@ fn play_restart(
 ) -> Played
     requires { ⌜ out + 14 ≤ length (now answers) ⌝ }
     ensures { λ r. ⌜ r .swapped ≡ swapped (Storing.stored book (now (ring .entry)) (now (image .entry))) (now (other .entry)) ⌝ }
-    ensures { λ r. ⌜ r .book ≡ restartedBook (Storing.stored book (now (ring .entry)) (now (image .entry))) (now (other .entry)) book ⌝ }
-    ensures { λ _. ⌜ now (other .exit) ≡ reloaded (Storing.stored book (now (ring .entry)) (now (image .entry))) (now (other .entry)) ⌝ }
+    ensures { λ r. ⌜ r .book
+        ≡ restartedBook (Storing.stored book (now (ring .entry)) (now (image .entry))) (now (other .entry)) book ⌝ }
+    ensures { λ _. ⌜ now (other .exit)
+        ≡ reloaded (Storing.stored book (now (ring .entry)) (now (image .entry))) (now (other .entry)) ⌝ }
     ensures { λ _. ⌜ now (image .exit) ≡ Storing.stored book (now (ring .entry)) (now (image .entry)) .buffer ⌝ }
-    ensures { λ _. ⌜ now (answers .exit) ≡ sets (now (answers .entry)) out (plainRecord 69 (restartVerdict (Storing.stored book (now (ring .entry)) (now (image .entry))) (now (other .entry)))) ⌝ }
+    ensures { λ _. ⌜ now (answers .exit) ≡ sets (now (answers .entry)) out
+        (plainRecord 69 (restartVerdict (Storing.stored book (now (ring .entry)) (now (image .entry))) (now (other .entry)))) ⌝ }
 {
     let stored = store(book, ring, image);
     let size = stored.image;
@@ -229,9 +248,16 @@ pub fn play_call(
     out: usize,
 ) -> Played
     requires { ⌜ (at ≤ length (now calls)) × (out ≤ length (now answers)) ⌝ }
-    requires { ⌜ playable (now calls) (stateOf false book (now ring) (now other) (now image) (now numbers) (now factors) (now table) at out (now answers)) ≡ true ⌝ }
-    ensures { λ r. ⌜ r .swapped ≡ swaps (now (calls .entry)) (stateOf false book (now (ring .entry)) (now (other .entry)) (now (image .entry)) (now (numbers .entry)) (now (factors .entry)) (now (table .entry)) at out (now (answers .entry))) ⌝ }
-    ensures { λ r. ⌜ stateOf (r .swapped) (r .book) (now (ring .exit)) (now (other .exit)) (now (image .exit)) (now (numbers .exit)) (now (factors .exit)) (now (table .exit)) (at + callSize (now (calls .entry)) at) (out + answerSize (now (calls .entry)) at) (now (answers .exit)) ≡ step (now (calls .entry)) (stateOf false book (now (ring .entry)) (now (other .entry)) (now (image .entry)) (now (numbers .entry)) (now (factors .entry)) (now (table .entry)) at out (now (answers .entry))) ⌝ }
+    requires { ⌜ playable (now calls) (stateOf false book (now ring) (now other) (now image) (now numbers) (now factors) (now table)
+        at out (now answers)) ≡ true ⌝ }
+    ensures { λ r. ⌜ (let before = stateOf false book (now (ring .entry)) (now (other .entry)) (now (image .entry))
+        (now (numbers .entry)) (now (factors .entry)) (now (table .entry)) at out (now (answers .entry)) in
+        r .swapped ≡ swaps (now (calls .entry)) before) ⌝ }
+    ensures { λ r. ⌜ (let before = stateOf false book (now (ring .entry)) (now (other .entry)) (now (image .entry))
+        (now (numbers .entry)) (now (factors .entry)) (now (table .entry)) at out (now (answers .entry)) in
+        stateOf (r .swapped) (r .book) (now (ring .exit)) (now (other .exit)) (now (image .exit)) (now (numbers .exit))
+        (now (factors .exit)) (now (table .exit)) (at + callSize (now (calls .entry)) at) (out + answerSize (now (calls .entry)) at)
+        (now (answers .exit)) ≡ step (now (calls .entry)) before) ⌝ }
 {
     let kind = get_u16(calls, at + 4);
     if kind == 65 {

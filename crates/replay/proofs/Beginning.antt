@@ -21,6 +21,7 @@ use Rattle.replay.specs.Replay.{Lent, partOf, sizeIn, mine, spare, opene
 use Rattle.replay.specs.Promise.{promised}
 use Rattle.replay.proofs.Looping.{behind}
 use Rattle.replay.proofs.Promises.{part-room, promise}
+use Rattle.replay.proofs.Within.{written-within}
 
 -- ---- the state after the opening
 pub opening : (c : List ℕ) (m : Lent) (settings : Settings) (r : Opened) (ring : List ℤ) (answers : List ℕ) → settings ≡ settingsIn c
@@ -85,15 +86,22 @@ module _ (c : List ℕ) where
         → outcome written answers ring other image numbers factors table
         ≡ finished c (begins c (lentOf (m .answers) (take n (m .ring)) (take k (m .other)) (m .image) (m .numbers) (m .factors) (m .table))) [] []
         → outcome written answers (ring ++ drop n (m .ring)) (other ++ drop k (m .other)) image numbers factors table ≡ replayed c m
+    unfolding finished
     replays n k written answers ring other image numbers factors table t l p q e =
         let s : State = begins c (lentOf (m .answers) (take n (m .ring)) (take k (m .other)) (m .image) (m .numbers) (m .factors) (m .table)) in
         behind (runs (length c) c s) (turns (length c) c s false) written answers ring other image numbers factors table (drop n (m .ring)) (drop k (m .other)) e
         ∙ (λ i. finished c (begins c (lentOf (m .answers) (take (p i) (m .ring)) (take (q i) (m .other)) (m .image) (m .numbers) (m .factors) (m .table))) (drop (p i) (m .ring)) (drop (q i) (m .other)))
         ∙ goes-on (starts t l)
 
-    -- what is answered is then what was promised
-    pub promises : (o : Outcome) → o ≡ replayed c m → (o ≡ replayed c m) × ((o .written ≡ length (promised c m)) × (o .lent .answers ≡ sets (m .answers) 0 (promised c m)))
-    promises o e = let p = promise c m in (e, (ap (λ (x : Outcome). x .written) e ∙ p .1, ap (λ (x : Outcome). x .lent .answers) e ∙ p .0))
+    -- what is answered is then what was promised, and lies within the answers
+    pub promises : (o : Outcome) → o ≡ replayed c m
+        → (o ≡ replayed c m)
+        × ((o .written ≡ length (promised c m))
+        × ((o .lent .answers ≡ sets (m .answers) 0 (promised c m)) × (o .written ≤ length (m .answers))))
+    promises o e =
+        let p = promise c m in
+        let w : o .written ≡ replayed c m .written = ap (λ (x : Outcome). x .written) e in
+        (e, (w ∙ p .1, (ap (λ (x : Outcome). x .lent .answers) e ∙ p .0, rw w (written-within c m))))
 
   -- ---- how much of a ring a book is lent
   pub part-is : (r s w size n room : ℕ) → r ≡ numberAt c 6 1 → s ≡ numberAt c 7 1 → w ≡ numberAt c 8 2 → size ≡ ringSize r s w → n ≡ partOf size room → n ≡ partOf (sizeIn c) room

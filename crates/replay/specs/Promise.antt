@@ -68,7 +68,7 @@ abbrev pub recordOf : Call → Answer → List ℕ
 recordOf c (entered v count table) = entryRecord v count table
 recordOf c (set v) = plainRecord (kindOf c) v
 recordOf c (reported numbers) = reportRecord numbers
-recordOf c (restarted v) = plainRecord 69 v
+recordOf c (restarted v) = plainRecord (kindOf c) v
 
 unfoldable pub recordsOf : List Call → List Answer → List ℕ
 recordsOf [] l = []

@@ -40,9 +40,16 @@ fn play_turned(
     out: usize,
 ) -> Played
     requires { ⌜ (at ≤ length (now calls)) × (out ≤ length (now answers)) ⌝ }
-    requires { ⌜ playable (now calls) (stateOf turned book (now ring) (now other) (now image) (now numbers) (now factors) (now table) at out (now answers)) ≡ true ⌝ }
-    ensures { λ r. ⌜ r .swapped ≡ swaps (now (calls .entry)) (stateOf turned book (now (ring .entry)) (now (other .entry)) (now (image .entry)) (now (numbers .entry)) (now (factors .entry)) (now (table .entry)) at out (now (answers .entry))) ⌝ }
-    ensures { λ r. ⌜ stateOf (turn turned (r .swapped)) (r .book) (now (ring .exit)) (now (other .exit)) (now (image .exit)) (now (numbers .exit)) (now (factors .exit)) (now (table .exit)) (at + callSize (now (calls .entry)) at) (out + answerSize (now (calls .entry)) at) (now (answers .exit)) ≡ step (now (calls .entry)) (stateOf turned book (now (ring .entry)) (now (other .entry)) (now (image .entry)) (now (numbers .entry)) (now (factors .entry)) (now (table .entry)) at out (now (answers .entry))) ⌝ }
+    requires { ⌜ playable (now calls) (stateOf turned book (now ring) (now other) (now image) (now numbers) (now factors) (now table)
+        at out (now answers)) ≡ true ⌝ }
+    ensures { λ r. ⌜ (let before = stateOf turned book (now (ring .entry)) (now (other .entry)) (now (image .entry))
+        (now (numbers .entry)) (now (factors .entry)) (now (table .entry)) at out (now (answers .entry)) in
+        r .swapped ≡ swaps (now (calls .entry)) before) ⌝ }
+    ensures { λ r. ⌜ (let before = stateOf turned book (now (ring .entry)) (now (other .entry)) (now (image .entry))
+        (now (numbers .entry)) (now (factors .entry)) (now (table .entry)) at out (now (answers .entry)) in
+        stateOf (turn turned (r .swapped)) (r .book) (now (ring .exit)) (now (other .exit)) (now (image .exit)) (now (numbers .exit))
+        (now (factors .exit)) (now (table .exit)) (at + callSize (now (calls .entry)) at) (out + answerSize (now (calls .entry)) at)
+        (now (answers .exit)) ≡ step (now (calls .entry)) before) ⌝ }
 {
     if turned {
         return play_call(
@@ -93,7 +100,10 @@ fn play_calls(
     answers: &mut [u8],
 ) -> usize
     requires { ⌜ (38 ≤ length (now calls)) × (14 ≤ length (now answers)) ⌝ }
-    ensures { λ r. ⌜ outcome r (now (answers .exit)) (now (ring .exit)) (now (other .exit)) (now (image .exit)) (now (numbers .exit)) (now (factors .exit)) (now (table .exit)) ≡ finished (now (calls .entry)) (stateOf false opened (now (ring .entry)) (now (other .entry)) (now (image .entry)) (now (numbers .entry)) (now (factors .entry)) (now (table .entry)) 38 14 (now (answers .entry))) [] [] ⌝ }
+    ensures { λ r. ⌜ (let before = stateOf false opened (now (ring .entry)) (now (other .entry)) (now (image .entry))
+        (now (numbers .entry)) (now (factors .entry)) (now (table .entry)) 38 14 (now (answers .entry)) in
+        outcome r (now (answers .exit)) (now (ring .exit)) (now (other .exit)) (now (image .exit)) (now (numbers .exit))
+        (now (factors .exit)) (now (table .exit)) ≡ finished (now (calls .entry)) before [] []) ⌝ }
 {
     let mut book = opened;
     let mut turned = false;
@@ -145,7 +155,10 @@ fn play_opening(
     answers: &mut [u8],
 ) -> usize
     requires { ⌜ (38 ≤ length (now calls)) × (14 ≤ length (now answers)) ⌝ }
-    ensures { λ r. ⌜ outcome r (now (answers .exit)) (now (ring .exit)) (now (other .exit)) (now (image .exit)) (now (numbers .exit)) (now (factors .exit)) (now (table .exit)) ≡ finished (now (calls .entry)) (begins (now (calls .entry)) (lentOf (now (answers .entry)) (now (ring .entry)) (now (other .entry)) (now (image .entry)) (now (numbers .entry)) (now (factors .entry)) (now (table .entry)))) [] [] ⌝ }
+    ensures { λ r. ⌜ (let lent = lentOf (now (answers .entry)) (now (ring .entry)) (now (other .entry)) (now (image .entry))
+        (now (numbers .entry)) (now (factors .entry)) (now (table .entry)) in
+        outcome r (now (answers .exit)) (now (ring .exit)) (now (other .exit)) (now (image .exit)) (now (numbers .exit))
+        (now (factors .exit)) (now (table .exit)) ≡ finished (now (calls .entry)) (begins (now (calls .entry)) lent) [] []) ⌝ }
 {
     let opened = open(settings_in(calls), ring);
     let answer = opened.answer;
@@ -176,9 +189,17 @@ pub fn replay(
     factors: &mut [u32],
     table: &mut [i32],
 ) -> usize
-    ensures { λ r. ⌜ outcome r (now (answers .exit)) (now (ring .exit)) (now (other .exit)) (now (image .exit)) (now (numbers .exit)) (now (factors .exit)) (now (table .exit)) ≡ replayed (now (calls .entry)) (lentOf (now (answers .entry)) (now (ring .entry)) (now (other .entry)) (now (image .entry)) (now (numbers .entry)) (now (factors .entry)) (now (table .entry))) ⌝ }
-    ensures { λ r. ⌜ r ≡ length (promised (now (calls .entry)) (lentOf (now (answers .entry)) (now (ring .entry)) (now (other .entry)) (now (image .entry)) (now (numbers .entry)) (now (factors .entry)) (now (table .entry)))) ⌝ }
-    ensures { λ r. ⌜ now (answers .exit) ≡ sets (now (answers .entry)) 0 (promised (now (calls .entry)) (lentOf (now (answers .entry)) (now (ring .entry)) (now (other .entry)) (now (image .entry)) (now (numbers .entry)) (now (factors .entry)) (now (table .entry)))) ⌝ }
+    ensures { λ r. ⌜ (let lent = lentOf (now (answers .entry)) (now (ring .entry)) (now (other .entry)) (now (image .entry))
+        (now (numbers .entry)) (now (factors .entry)) (now (table .entry)) in
+        outcome r (now (answers .exit)) (now (ring .exit)) (now (other .exit)) (now (image .exit)) (now (numbers .exit))
+        (now (factors .exit)) (now (table .exit)) ≡ replayed (now (calls .entry)) lent) ⌝ }
+    ensures { λ r. ⌜ (let lent = lentOf (now (answers .entry)) (now (ring .entry)) (now (other .entry)) (now (image .entry))
+        (now (numbers .entry)) (now (factors .entry)) (now (table .entry)) in
+        r ≡ length (promised (now (calls .entry)) lent)) ⌝ }
+    ensures { λ r. ⌜ (let lent = lentOf (now (answers .entry)) (now (ring .entry)) (now (other .entry)) (now (image .entry))
+        (now (numbers .entry)) (now (factors .entry)) (now (table .entry)) in
+        now (answers .exit) ≡ sets (now (answers .entry)) 0 (promised (now (calls .entry)) lent)) ⌝ }
+    ensures { λ r. ⌜ r ≤ length (now (answers .entry)) ⌝ }
 {
     if !opens(calls) {
         return 0;
