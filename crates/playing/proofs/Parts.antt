@@ -139,7 +139,6 @@ module _ (c : List ℕ) (at : ℕ) (l : Lengths) (e : l ≡ lengthsAt c at) wher
     module _ (b : Book) (ring : List ℤ) (kind number : ℕ) (k : kind ≡ numberAt c (at + 10) 1) (m : number ≡ entryNumber c at) (table : List ℤ) (t : table ≡ tableAt c at)
         (r : Entered) (ring′ table′ : List ℤ) (o : outcome r ring′ table′ ≡ entered b (take (l .ring) ring) number (parts kind numbers factors) table) where
       parts-entered : outcome r ring′ table′ ≡ enteredAt c at b ring
-      unfolding enteredAt
       parts-entered = o ∙ (λ i. entered b (take (e i .ring) ring) (m i) (parts-entry kind k i) (t i))
 
       pub parts-left : (outcome r (enteredAt c at b ring .ring) table′ ≡ enteredAt c at b ring) × (ring′ ++ drop (l .ring) ring ≡ enteredAt c at b ring .ring ++ drop (l .ring) ring)

@@ -104,7 +104,7 @@ abbrev pub report : List ℕ → State → State
 report c s = reports c s (Report.reported (s .book) (regionIn c (s .at)) (marketIn c (s .at)))
 
 -- ---- an entry: it is lent the first places of the book's ring, as many as its record says, and a table that holds what its record says
-unfoldable pub enteredAt : List ℕ → ℕ → Book → List ℤ → Entering.Outcome
+abbrev pub enteredAt : List ℕ → ℕ → Book → List ℤ → Entering.Outcome
 enteredAt c at b ring = Entering.entered b (take (lengthsAt c at .ring) ring) (entryNumber c at) (entryAt c at) (tableAt c at)
 
 abbrev pub enteredRecord : Entering.Outcome → List ℕ

@@ -86,7 +86,6 @@ module _ (c : List ℕ) where
         → outcome written answers ring other image numbers factors table
         ≡ finished c (begins c (lentOf (m .answers) (take n (m .ring)) (take k (m .other)) (m .image) (m .numbers) (m .factors) (m .table))) [] []
         → outcome written answers (ring ++ drop n (m .ring)) (other ++ drop k (m .other)) image numbers factors table ≡ replayed c m
-    unfolding finished
     replays n k written answers ring other image numbers factors table t l p q e =
         let s : State = begins c (lentOf (m .answers) (take n (m .ring)) (take k (m .other)) (m .image) (m .numbers) (m .factors) (m .table)) in
         behind (runs (length c) c s) (turns (length c) c s false) written answers ring other image numbers factors table (drop n (m .ring)) (drop k (m .other)) e

@@ -235,7 +235,6 @@ module _ (c : List ℕ) (m : Lengths) (s : State) (p : Ledger) (g : Good m s p) 
 
     -- a ring of another length is refused, and left as it was
     left-alone : isOwn (s .book) lent ≡ false → o .ring ≡ lent
-    unfolding enteredAt
     left-alone q =
         by-test (isAccepted (enterVerdict (s .book) (length lent) (entryNumber c (s .at)) (entryAt c (s .at)) (length (tableAt c (s .at)))))
         (λ u. absurd (eqb-false (length lent) (ringSize (s .book .regions) (s .book .services) (s .book .window)) q
@@ -249,13 +248,13 @@ module _ (c : List ℕ) (m : Lengths) (s : State) (p : Ledger) (g : Good m s p) 
         (λ q. rw q (ap (λ (l : List ℤ). l ++ drop places (s .ring)) (left-alone q) ∙ take-append-drop places (s .ring)))
 
     entry-held : heldOf (entry c s) ≡ Book.play h own .state
-    unfolding Book.play enteredAt
+    unfolding Book.play
     entry-held =
         let e : List ℤ → Entering.Outcome = λ x. Entering.entered (s .book) x (entryNumber c (s .at)) (entryAt c (s .at)) (tableAt c (s .at)) in
         λ i. record { book = e (sym lent-is i) .book; ring = (ring-is ∙ ap (λ (x : List ℤ). pick (isOwn (s .book) lent) (e x .ring) (s .ring)) (sym lent-is)) i }
 
     entry-said : recordOf own (Book.play h own .answer) ≡ enteredRecord o
-    unfolding Book.play enteredAt
+    unfolding Book.play
     entry-said = ap (λ (x : List ℤ). enteredRecord (Entering.entered (s .book) x (entryNumber c (s .at)) (entryAt c (s .at)) (tableAt c (s .at)))) lent-is
 
     entry-alike : Ledger.play p own ≡ Ledger.play p (Calls.entry (replicate places (pos 0)) (entryNumber c (s .at)) (entryAt c (s .at)) (tableAt c (s .at)))
@@ -263,7 +262,6 @@ module _ (c : List ℕ) (m : Lengths) (s : State) (p : Ledger) (g : Good m s p) 
     entry-alike = ap (λ (n : ℕ). Ledger.playEntry p n (entryNumber c (s .at)) (entryAt c (s .at)) (tableAt c (s .at))) (lent-length ∙ sym (length-replicate places (pos 0)))
 
     table-length : length (o .table) ≡ lengthsAt c (s .at) .table
-    unfolding enteredAt
     table-length =
         table-kept (s .book) lent (entryNumber c (s .at)) (entryAt c (s .at)) (tableAt c (s .at)) ∙ length-run _ (lengthsAt c (s .at) .table) 0
 

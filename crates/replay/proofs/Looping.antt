@@ -110,7 +110,6 @@ module _ {c : List ℕ} {s₀ s : State} {t : Bool} (h : Held c s₀ t s) where
       (step-held c s₀ s s' t (h .fuel) p q (h .enough) (h .all) (h .sides) (fits-in h p) (ap (λ (i : ℕ). s .at + i) e) (ap (λ (i : ℕ). s .out + i) f) k)
 
   pub done : (ring other : List ℤ) → playable c s ≡ false → left s t ring other ≡ finished c s₀ ring other
-  unfolding finished
   done ring other p =
       let x : s ≡ runs (length c) c s₀ = sym (runs-stop c s (h .fuel) p) ∙ h .all in
       let y : t ≡ turns (length c) c s₀ false = sym (turns-stop c s (h .fuel) t p) ∙ h .sides in

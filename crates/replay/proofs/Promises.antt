@@ -149,7 +149,7 @@ module _ (c : List ℕ) (m : Lent) where
 
   written : (replayed c m .lent .answers ≡ sets (m .answers) 0 (pick (begun c (length (m .answers))) (first ++ told (ledgerAnswers c v (callsIn c (sizesOf m)))) []))
       × (replayed c m .written ≡ length (pick (begun c (length (m .answers))) (first ++ told (ledgerAnswers c v (callsIn c (sizesOf m)))) []))
-  unfolding replayed Replay.finished
+  unfolding replayed
   written = by-test (begun c (length (m .answers))) (λ t. rw t all-told) (λ t. rw t (refl, refl))
 
   by-lengths : promised c m ≡ pick (begun c (length (m .answers))) (first ++ told (ledgerAnswers c v (callsIn c (sizesOf m)))) []

@@ -121,7 +121,6 @@ module _ (c : List ℕ) (m : Lengths) (s : State) (u : Unit {0}) (g : Closed m s
       (subst (λ (x : Storing.Outcome). Fits m (restarts c s x)) (sym e) (let f = g .lent in record { ring = f .ring; numbers = f .numbers; factors = f .factors; table = f .table; other = f .other; image = f .image }))
 
   entry-steps : goes (m .room) c (s .at) (length (s .answers) - s .out) ≡ true → kindAt c (s .at) ≡ 65 → Stepped refuse c m (Closed m) s u (callAt m c (s .at))
-  unfolding enteredAt
   entry-steps t k =
       let l = lengthsAt c (s .at) in
       let e = no-entry (s .book) invalid (take (l .ring) (s .ring)) (entryNumber c (s .at)) (entryAt c (s .at)) (tableAt c (s .at)) in

@@ -15,7 +15,7 @@ use Rattle.book.specs.Report as Report
 use Rattle.image.specs.Storing as Storing
 use Rattle.records.specs.Writing.{plainRecord, reportRecord}
 use Rattle.playing.specs.Playing.{State, roomOf, playable, step, thresholdIn, capIn, floorIn, regionIn, marketIn, threshold, limits, report, enteredAt, enteredRecord, entry, restartVerdict, restart}
-use Rattle.replay.specs.Replay.{Lent, runs, parts, begins, opened, finished, begun, replayed}
+use Rattle.replay.specs.Replay.{Lent, runs, parts, begins, opened, begun, replayed}
 use Rattle.playing.proofs.Goes.{goes-room}
 use Rattle.replay.proofs.Looping.{runs-next, runs-stop}
 
@@ -61,5 +61,5 @@ module _ (c : List ℕ) (m : Lent) where
       subst (λ (i : ℕ). runs (length c) c (begins c (parts c m)) .out ≤ i) k (within (length c) c (begins c (parts c m)) (omega (arith, k)))
 
   pub written-within : replayed c m .written ≤ length (m .answers)
-  unfolding replayed finished
+  unfolding replayed
   written-within = by-test (begun c (length (m .answers))) (λ t. rw t (from-opening (room t))) (λ t. rw t (omega arith))

@@ -109,7 +109,7 @@ left s turned ring other = record {
 }
 
 -- every call from a state on
-unfoldable pub finished : List ℕ → State → List ℤ → List ℤ → Outcome
+abbrev pub finished : List ℕ → State → List ℤ → List ℤ → Outcome
 finished c s ring other = left (runs (length c) c s) (turns (length c) c s false) ring other
 
 -- an opening stands first, and its answer fits
