@@ -1,9 +1,9 @@
--- `stage::prices_of` reads within the table and ends. Assumes nothing.
+-- `guide_books::printing::prices` reads within the table and ends. Assumes nothing.
 use borrow.Author.Needs.{needs}
 use Prim.Native.Nat.{_≤_, _-_}
 use lib.ListN.{length}
-use Rattle.stage.proofs.prices_of.Statement.{statement}
-use Rattle.stage.proofs.prices_of.Tie as tie
+use Rattle.guide_books.proofs.printing.prices.Statement.{statement}
+use Rattle.guide_books.proofs.printing.prices.Tie as tie
 
 abbrev Inv-loop : tie.InvT-loop
 Inv-loop table k₀ k = k ≤ length table
@@ -35,8 +35,8 @@ loop-again c = search needs
 returns : tie.Need-returns Inv-loop μ-loop
 returns c = search needs
 
-pub prices-of-spec : {M : Type 1} → statement M
-prices-of-spec =
+pub prices-spec : {M : Type 1} → statement M
+prices-spec =
     tie.close
     (tie.spec
     Inv-loop
