@@ -31,32 +31,22 @@ use book::report::report;
 use book::setting::set_limits;
 use book::setting::set_threshold;
 use entries::enter;
+ghost use Prim.Native.Nat.{_<_};
 
-// Where the lines with what is lent begin, and how many places the ring has.
-struct Lent {
-    prices: usize,
-    marks: usize,
-    flows: usize,
-    factors: usize,
-    schedule: usize,
-    parents: usize,
-    ring: usize,
-}
-
-// What is lent from this line on.
-fn lent_from(before: Lent, letter: u8, text: &[u8], at: usize) -> Lent {
-    let mut lent = before;
+// The place among the lines with what is lent of a line with this letter; the last is of all others.
+fn lent_place(letter: u8) -> usize
+    ensures { λ r. ⌜ r < 8 ⌝ }
+{
     match letter {
-        b'p' => lent.prices = at,
-        b'm' => lent.marks = at,
-        b'f' => lent.flows = at,
-        b'l' => lent.factors = at,
-        b's' => lent.schedule = at,
-        b'w' => lent.parents = at,
-        b'a' => lent.ring = first_number(text, at),
-        _ => {}
+        b'p' => 0,
+        b'm' => 1,
+        b'f' => 2,
+        b'l' => 3,
+        b's' => 4,
+        b'w' => 5,
+        b'a' => 6,
+        _ => 7,
     }
-    lent
 }
 
 fn first_number(text: &[u8], at: usize) -> usize {
@@ -94,7 +84,7 @@ fn opened(ring: &mut [i32], text: &[u8], at: usize, parents_at: usize) -> Book {
 }
 
 // An entry that is lent what the lines say, and a table as long as its prices.
-fn entered(book: Book, ring: &mut [i32], text: &[u8], at: usize, lent: Lent) -> Book {
+fn entered(book: Book, ring: &mut [i32], text: &[u8], at: usize, lent: [usize; 8]) -> Book {
     let mut n = [0u32; 2];
     let mut prices = [0i32; 16];
     let mut marks = [0u8; 8];
@@ -102,13 +92,13 @@ fn entered(book: Book, ring: &mut [i32], text: &[u8], at: usize, lent: Lent) -> 
     let mut factors = [0u32; 8];
     let mut schedule = [0i32; 32];
     numbers(text, at, &mut n);
-    let p = signed_numbers(text, lent.prices, &mut prices);
-    let m = bytes(text, lent.marks, &mut marks);
-    let f = signed_numbers(text, lent.flows, &mut flows);
-    let l = numbers(text, lent.factors, &mut factors);
-    let s = signed_numbers(text, lent.schedule, &mut schedule);
+    let p = signed_numbers(text, lent[0], &mut prices);
+    let m = bytes(text, lent[1], &mut marks);
+    let f = signed_numbers(text, lent[2], &mut flows);
+    let l = numbers(text, lent[3], &mut factors);
+    let s = signed_numbers(text, lent[4], &mut schedule);
     let mut table = prices;
-    entry(
+    let e = enter(
         book,
         ring,
         n[0],
@@ -119,35 +109,9 @@ fn entered(book: Book, ring: &mut [i32], text: &[u8], at: usize, lent: Lent) -> 
         &factors[..l],
         &schedule[..s],
         &mut table[..p],
-    )
-}
-
-fn entry(
-    book: Book,
-    ring: &mut [i32],
-    number: u32,
-    kind: u8,
-    prices: &[i32],
-    marks: &[u8],
-    flows: &[i32],
-    factors: &[u32],
-    schedule: &[i32],
-    table: &mut [i32],
-) -> Book {
-    let e = enter(
-        book,
-        ring,
-        number,
-        kind,
-        prices,
-        marks,
-        flows,
-        factors,
-        schedule,
-        table,
     );
     let publication = e.publication;
-    published(publication, table);
+    published(publication, &table, p);
     e.book
 }
 
@@ -195,11 +159,18 @@ fn first_sum(book: Book) -> Book {
 }
 
 // The book after a line.
-fn called(book: Book, places: &mut [i32], letter: u8, text: &[u8], at: usize, lent: Lent) -> Book {
-    let n = within(lent.ring, places);
+fn called(
+    book: Book,
+    places: &mut [i32],
+    letter: u8,
+    text: &[u8],
+    at: usize,
+    lent: [usize; 8],
+) -> Book {
+    let n = within(first_number(text, lent[6]), places);
     let ring = &mut places[..n];
     match letter {
-        b'o' => opened(ring, text, at, lent.parents),
+        b'o' => opened(ring, text, at, lent[5]),
         b'e' => entered(book, ring, text, at, lent),
         b't' => threshold(book, text, at),
         b'c' => limits(book, text, at),
@@ -220,21 +191,13 @@ fn heading(letter: u8, text: &[u8], at: usize) {
 
 pub fn play(text: &[u8]) {
     let mut ring = [7i32; 16];
-    let mut lent = Lent {
-        prices: 0,
-        marks: 0,
-        flows: 0,
-        factors: 0,
-        schedule: 0,
-        parents: 0,
-        ring: 0,
-    };
+    let mut lent = [0usize; 8];
     let mut book = closed();
     let mut at: usize = 0;
     while at < text.len() {
         let letter = letter_at(text, at);
         heading(letter, text, at);
-        lent = lent_from(lent, letter, text, at);
+        lent[lent_place(letter)] = at;
         book = called(book, &mut ring, letter, text, at, lent);
         at += 1;
     }

@@ -30,7 +30,7 @@ fn at(place: usize) {
     number(place as u64);
 }
 
-// The number of a refusal.
+// The number of a refusal. Those from 22 on are of calls that no line has.
 fn code(r: Refusal) -> u64 {
     match r {
         Refusal::Invalid => 10,
@@ -45,12 +45,7 @@ fn code(r: Refusal) -> u64 {
         Refusal::Limits => 19,
         Refusal::Setting => 20,
         Refusal::Market => 21,
-        Refusal::Sums => 22,
-        Refusal::Buffer => 23,
-        Refusal::ImageLength => 24,
-        Refusal::ImageKind => 25,
-        Refusal::ImageField => 26,
-        Refusal::ImageTotal => 27,
+        _ => 22,
     }
 }
 
@@ -83,11 +78,11 @@ pub fn answered(call: &[u8], answer: Answer) {
 }
 
 // An entry: the published prices and the count, or the refusal.
-pub fn published(publication: Publication, table: &[i32]) {
+pub fn published(publication: Publication, table: &[i32; 16], places: usize) {
     match publication {
         Publication::Count(n) => {
             say(b"published");
-            prices(table);
+            prices(table, places);
             say(b" count");
             number(n as u64);
         }
@@ -99,10 +94,13 @@ pub fn published(publication: Publication, table: &[i32]) {
     say(b"\n");
 }
 
-pub fn prices(table: &[i32]) {
+// The first prices of a table.
+fn prices(table: &[i32; 16], places: usize) {
     let mut k: usize = 0;
-    while k < table.len() {
-        price(table[k]);
+    while k < 16 {
+        if k < places {
+            price(table[k]);
+        }
         k += 1;
     }
 }

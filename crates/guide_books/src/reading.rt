@@ -7,23 +7,15 @@ fn is_digit(b: u8) -> bool {
     (b >= 48) & (b <= 57)
 }
 
-// The byte before a place, or a line end where there is none.
-fn byte_before(text: &[u8], at: usize) -> u8 {
-    if at == 0 {
-        return 10;
-    }
-    if at > text.len() {
-        return 10;
-    }
-    text[at - 1]
-}
-
-// The letter that a line begins with, or 0 where no line begins.
+// The letter that a line begins with, or 0 where no line begins; the first line is for the reader.
 pub fn letter_at(text: &[u8], at: usize) -> u8 {
+    if at == 0 {
+        return 0;
+    }
     if at >= text.len() {
         return 0;
     }
-    if byte_before(text, at) != 10 {
+    if text[at - 1] != 10 {
         return 0;
     }
     text[at]

@@ -24,8 +24,14 @@ letter-at-requires c κs = search needs
 heading-requires : tie.Need-heading-requires Inv-loop μ-loop
 heading-requires c κs = search needs
 
-lent-from-requires : tie.Need-lent-from-requires Inv-loop μ-loop
-lent-from-requires c κs = search needs
+lent-place-requires : tie.Need-lent-place-requires Inv-loop μ-loop
+lent-place-requires c κs = search needs
+
+mul-lent : tie.Need-mul-lent Inv-loop μ-loop
+mul-lent c = search needs
+
+array-write-lent : tie.Need-array-write-lent Inv-loop μ-loop
+array-write-lent c = search needs
 
 slice-aggregate-called : tie.Need-slice-aggregate-called Inv-loop μ-loop
 slice-aggregate-called c = search needs
@@ -55,7 +61,9 @@ play-spec =
     loop-holds
     letter-at-requires
     heading-requires
-    lent-from-requires
+    lent-place-requires
+    mul-lent
+    array-write-lent
     slice-aggregate-called
     called-requires
     add-at

@@ -1,15 +1,14 @@
 -- `guide_books::printing::prices` reads within the table and ends. Assumes nothing.
 use borrow.Author.Needs.{needs}
 use Prim.Native.Nat.{_≤_, _-_}
-use lib.ListN.{length}
 use Rattle.guide_books.proofs.printing.prices.Statement.{statement}
 use Rattle.guide_books.proofs.printing.prices.Tie as tie
 
 abbrev Inv-loop : tie.InvT-loop
-Inv-loop table k₀ k = k ≤ length table
+Inv-loop table places k₀ k = k ≤ 16
 
 abbrev μ-loop : tie.MeasureT-loop
-μ-loop table k₀ k = length table - k
+μ-loop table places k₀ k = 16 - k
 
 loop-holds : tie.Need-loop-holds Inv-loop μ-loop
 loop-holds c = search needs
@@ -17,8 +16,8 @@ loop-holds c = search needs
 mul-price : tie.Need-mul-price Inv-loop μ-loop
 mul-price c = search needs
 
-shared-slice-copy-out-price : tie.Need-shared-slice-copy-out-price Inv-loop μ-loop
-shared-slice-copy-out-price c = search needs
+element-copy-out-price : tie.Need-element-copy-out-price Inv-loop μ-loop
+element-copy-out-price c = search needs
 
 price-requires : tie.Need-price-requires Inv-loop μ-loop
 price-requires c κs = search needs
@@ -43,7 +42,7 @@ prices-spec =
     μ-loop
     loop-holds
     mul-price
-    shared-slice-copy-out-price
+    element-copy-out-price
     price-requires
     add-k
     loop-less
