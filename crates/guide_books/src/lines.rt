@@ -115,19 +115,15 @@ fn entered(book: Book, ring: &mut [i32], text: &[u8], at: usize, lent: [usize; 8
     e.book
 }
 
-fn threshold(book: Book, text: &[u8], at: usize) -> Book {
-    let mut z = [0i32; 1];
-    signed_numbers(text, at, &mut z);
-    let c = set_threshold(book, cents(z[0]));
+fn threshold(book: Book, cents: i64) -> Book {
+    let c = set_threshold(book, cents);
     let answer = c.answer;
     answered(b"threshold", answer);
     c.book
 }
 
-fn limits(book: Book, text: &[u8], at: usize) -> Book {
-    let mut z = [0i32; 2];
-    signed_numbers(text, at, &mut z);
-    let c = set_limits(book, z[0], z[1]);
+fn limits(book: Book, cap: i32, floor: i32) -> Book {
+    let c = set_limits(book, cap, floor);
     let answer = c.answer;
     answered(b"limits", answer);
     c.book
@@ -158,6 +154,19 @@ fn first_sum(book: Book) -> Book {
     book
 }
 
+// The book after a line that is lent nothing: a setting, a report, the sum.
+fn asked(book: Book, letter: u8, text: &[u8], at: usize) -> Book {
+    let mut z = [0i32; 2];
+    signed_numbers(text, at, &mut z);
+    match letter {
+        b't' => threshold(book, cents(z[0])),
+        b'c' => limits(book, z[0], z[1]),
+        b'r' => shown(book, text, at),
+        b'v' => first_sum(book),
+        _ => book,
+    }
+}
+
 // The book after a line.
 fn called(
     book: Book,
@@ -172,12 +181,8 @@ fn called(
     match letter {
         b'o' => opened(ring, text, at, lent[5]),
         b'e' => entered(book, ring, text, at, lent),
-        b't' => threshold(book, text, at),
-        b'c' => limits(book, text, at),
-        b'r' => shown(book, text, at),
         b'b' => broken(book, ring),
-        b'v' => first_sum(book),
-        _ => book,
+        _ => asked(book, letter, text, at),
     }
 }
 
