@@ -8,21 +8,6 @@
 //   r          report: region, market
 //   b          break the ring and the first sum, as others might; v: view that sum
 //   =          a heading to print; lines that begin with anything else are for the reader
-use crate::printing::amount;
-use crate::printing::answered;
-use crate::printing::published;
-use crate::printing::reported;
-use crate::printing::say;
-use crate::reading::byte;
-use crate::reading::bytes;
-use crate::reading::cents;
-use crate::reading::letter_at;
-use crate::reading::line_at;
-use crate::reading::numbers;
-use crate::reading::signed_numbers;
-use crate::reading::size;
-use crate::reading::wide;
-use crate::reading::within;
 use book::opening::open;
 use book::record::Book;
 use book::record::Settings;
@@ -31,6 +16,21 @@ use book::report::report;
 use book::setting::set_limits;
 use book::setting::set_threshold;
 use entries::enter;
+use stage::printing::amount;
+use stage::printing::answered;
+use stage::printing::published;
+use stage::printing::reported;
+use stage::printing::say;
+use stage::reading::byte;
+use stage::reading::bytes;
+use stage::reading::cents;
+use stage::reading::letter_at;
+use stage::reading::line_at;
+use stage::reading::numbers;
+use stage::reading::signed_numbers;
+use stage::reading::size;
+use stage::reading::wide;
+use stage::reading::within;
 ghost use Prim.Native.Nat.{_<_};
 
 // The place among the lines with what is lent of a line with this letter; the last is of all others.

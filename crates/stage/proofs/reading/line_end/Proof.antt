@@ -1,9 +1,9 @@
--- `guide_books::reading::line_end` reads within the text and ends. Assumes nothing.
+-- `stage::reading::line_end` reads within the text and ends. Assumes nothing.
 use borrow.Author.Needs.{needs}
 use Prim.Native.Nat.{_≤_, _-_}
 use lib.ListN.{length}
-use Rattle.guide_books.proofs.reading.line_end.Statement.{statement}
-use Rattle.guide_books.proofs.reading.line_end.Tie as tie
+use Rattle.stage.proofs.reading.line_end.Statement.{statement}
+use Rattle.stage.proofs.reading.line_end.Tie as tie
 
 abbrev Inv-loop : tie.InvT-loop
 Inv-loop text at i₀ i = at ≤ i

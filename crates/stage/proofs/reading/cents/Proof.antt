@@ -1,9 +1,9 @@
--- `guide_books::reading::cents`: a number is cast to 64 bits. Assumes nothing.
+-- `stage::reading::cents`: a number is cast to 64 bits. Assumes nothing.
 use mir.Syntax.{w64}
 use Rattle.laws.proofs.Machine.{int, asks}
 use borrow.Author.Needs.{needs}
-use Rattle.guide_books.proofs.reading.cents.Statement.{statement}
-use Rattle.guide_books.proofs.reading.cents.Tie as tie
+use Rattle.stage.proofs.reading.cents.Statement.{statement}
+use Rattle.stage.proofs.reading.cents.Tie as tie
 
 cast-result : tie.Need-cast-result
 cast-result c = asks w64 (int (c .args .n)) (search needs) tt

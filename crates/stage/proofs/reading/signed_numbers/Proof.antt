@@ -1,12 +1,12 @@
--- `guide_books::reading::bytes` writes within the list, meets its contract and ends. Assumes nothing.
+-- `stage::reading::signed_numbers` writes within the list, meets its contract and ends. Assumes nothing.
 use borrow.Author.Needs.{needs}
 use mathlib.Core.Path.{_≡_, sym}
 use Prim.Native.Nat.{_≤_, _-_}
 use native.Mathlib.Omega.{arith}
 use lib.ListN.{length, length-set}
 use lib.Seq.{length-take-le}
-use Rattle.guide_books.proofs.reading.bytes.Statement.{statement}
-use Rattle.guide_books.proofs.reading.bytes.Tie as tie
+use Rattle.stage.proofs.reading.signed_numbers.Statement.{statement}
+use Rattle.stage.proofs.reading.signed_numbers.Tie as tie
 
 abbrev Inv-loop : tie.InvT-loop
 Inv-loop text at list₀ k₀ i₀ list k i = (k ≤ length list) × (length list ≡ length list₀)
@@ -26,11 +26,14 @@ same-length c = search needs
 returns : tie.Need-returns Inv-loop μ-loop
 returns c = (omega arith, sym (length-take-le _ _ (omega arith)))
 
-byte-requires : tie.Need-byte-requires Inv-loop μ-loop
-byte-requires c κs = search needs
+signed-requires : tie.Need-signed-requires Inv-loop μ-loop
+signed-requires c κs = search needs
 
-slice-write-list : tie.Need-slice-write-list Inv-loop μ-loop
-slice-write-list c = search needs
+mul-t7 : tie.Need-mul-t7 Inv-loop μ-loop
+mul-t7 c = search needs
+
+slice-set-from-list : tie.Need-slice-set-from-list Inv-loop μ-loop
+slice-set-from-list c = search needs
 
 add-k : tie.Need-add-k Inv-loop μ-loop
 add-k c = search needs
@@ -47,8 +50,8 @@ same-length-2 c = search needs
 returns-2 : tie.Need-returns-2 Inv-loop μ-loop
 returns-2 c = (omega arith, sym (length-take-le _ _ (omega arith)))
 
-pub bytes-spec : {M : Type 1} → statement M
-bytes-spec =
+pub signed-numbers-spec : {M : Type 1} → statement M
+signed-numbers-spec =
     tie.close
     (tie.spec
     Inv-loop
@@ -57,8 +60,9 @@ bytes-spec =
     next-number-requires
     same-length
     returns
-    byte-requires
-    slice-write-list
+    signed-requires
+    mul-t7
+    slice-set-from-list
     add-k
     loop-less
     loop-again

@@ -1,8 +1,8 @@
--- `guide_books::printing::prices` reads within the table and ends. Assumes nothing.
+-- `stage::printing::prices` reads within the table and ends. Assumes nothing.
 use borrow.Author.Needs.{needs}
 use Prim.Native.Nat.{_≤_, _-_}
-use Rattle.guide_books.proofs.printing.prices.Statement.{statement}
-use Rattle.guide_books.proofs.printing.prices.Tie as tie
+use Rattle.stage.proofs.printing.prices.Statement.{statement}
+use Rattle.stage.proofs.printing.prices.Tie as tie
 
 abbrev Inv-loop : tie.InvT-loop
 Inv-loop table places k₀ k = k ≤ 16

@@ -1,9 +1,9 @@
--- `guide_books::price`: a price is cast to 64 bits. Assumes nothing.
+-- `stage::price`: a price is cast to 64 bits. Assumes nothing.
 use mir.Syntax.{w64}
 use Rattle.laws.proofs.Machine.{int, asks}
 use borrow.Author.Needs.{needs}
-use Rattle.guide_books.proofs.printing.price.Statement.{statement}
-use Rattle.guide_books.proofs.printing.price.Tie as tie
+use Rattle.stage.proofs.printing.price.Statement.{statement}
+use Rattle.stage.proofs.printing.price.Tie as tie
 
 cast-amount : tie.Need-cast-amount
 cast-amount c = asks w64 (int (c .args .cents)) (search needs) tt

@@ -1,12 +1,12 @@
--- `guide_books::reading::numbers` writes within the list, meets its contract and ends. Assumes nothing.
+-- `stage::reading::numbers` writes within the list, meets its contract and ends. Assumes nothing.
 use borrow.Author.Needs.{needs}
 use mathlib.Core.Path.{_≡_, sym}
 use Prim.Native.Nat.{_≤_, _-_}
 use native.Mathlib.Omega.{arith}
 use lib.ListN.{length, length-set}
 use lib.Seq.{length-take-le}
-use Rattle.guide_books.proofs.reading.numbers.Statement.{statement}
-use Rattle.guide_books.proofs.reading.numbers.Tie as tie
+use Rattle.stage.proofs.reading.numbers.Statement.{statement}
+use Rattle.stage.proofs.reading.numbers.Tie as tie
 
 abbrev Inv-loop : tie.InvT-loop
 Inv-loop text at list₀ k₀ i₀ list k i = (k ≤ length list) × (length list ≡ length list₀)

@@ -1,9 +1,9 @@
--- `guide_books::reading::within` meets its contract. Assumes nothing.
+-- `stage::reading::within` meets its contract. Assumes nothing.
 use mathlib.Core.Path.{sym}
 use native.Mathlib.Omega.{arith}
 use lib.Seq.{length-take-le}
-use Rattle.guide_books.proofs.reading.within.Statement.{statement}
-use Rattle.guide_books.proofs.reading.within.Tie as tie
+use Rattle.stage.proofs.reading.within.Statement.{statement}
+use Rattle.stage.proofs.reading.within.Tie as tie
 
 returns : tie.Need-returns
 returns c = (omega arith, sym (length-take-le _ _ (omega arith)))

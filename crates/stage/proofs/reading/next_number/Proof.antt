@@ -1,9 +1,9 @@
--- `guide_books::reading::next_number` reads within the text and ends. Assumes nothing.
+-- `stage::reading::next_number` reads within the text and ends. Assumes nothing.
 use borrow.Author.Needs.{needs}
 use Prim.Native.Nat.{_≤_, _-_}
 use lib.ListN.{length}
-use Rattle.guide_books.proofs.reading.next_number.Statement.{statement}
-use Rattle.guide_books.proofs.reading.next_number.Tie as tie
+use Rattle.stage.proofs.reading.next_number.Statement.{statement}
+use Rattle.stage.proofs.reading.next_number.Tie as tie
 
 abbrev Inv-loop : tie.InvT-loop
 Inv-loop text at found₀ minus₀ value₀ i₀ found minus value i = at ≤ i

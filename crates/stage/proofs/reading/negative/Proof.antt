@@ -1,12 +1,12 @@
--- `guide_books::reading::negative`: what is negated is below 2 ^ 31. Assumes nothing.
+-- `stage::reading::negative`: what is negated is below 2 ^ 31. Assumes nothing.
 use native.Mathlib.Omega.{arith}
 use lib.IntN.{pos}
 use mir.Syntax.{w32}
 use borrow.Author.Needs.{needs}
 use Rattle.laws.proofs.Machine.{nat, lit, _⊟_, asks}
 use borrow.Author.Needs.{needs}
-use Rattle.guide_books.proofs.reading.negative.Statement.{statement}
-use Rattle.guide_books.proofs.reading.negative.Tie as tie
+use Rattle.stage.proofs.reading.negative.Statement.{statement}
+use Rattle.stage.proofs.reading.negative.Tie as tie
 
 returns : tie.Need-returns
 returns c = search needs
