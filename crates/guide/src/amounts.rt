@@ -1,10 +1,19 @@
 // Amount texts, among them the ends of the range, and a buffer that is too short.
 use amount::amount_text;
 
-fn show(cents: i64) {
+pub fn amount(cents: i64) {
     let mut buffer = [0u8; 24];
     let text = amount_text(cents, &mut buffer);
     io::write_all(1, text);
+}
+
+pub fn price(cents: i32) {
+    io::write_all(1, b" ");
+    amount(cents as i64);
+}
+
+fn show(cents: i64) {
+    amount(cents);
     io::write_all(1, b"\n");
 }
 

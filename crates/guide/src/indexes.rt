@@ -3,17 +3,8 @@ use pricing::indexing::Answer;
 use pricing::indexing::Quarters;
 use pricing::indexing::indexed;
 
-fn quarters(q: u32) -> Quarters {
-    Quarters {
-        q1: q,
-        q2: q,
-        q3: q,
-        q4: q,
-    }
-}
-
-fn show(amount: u64, c: Quarters, b: Quarters, last: u64) {
-    match indexed(amount, c, b, last) {
+fn show(answer: Answer) {
+    match answer {
         Answer::Dollars(dollars) => {
             io::print_decimal(1, dollars);
         }
@@ -24,29 +15,36 @@ fn show(amount: u64, c: Quarters, b: Quarters, last: u64) {
     io::write_all(1, b"\n");
 }
 
-// The guide's years: quarters of 4,777 and of 3,844 in total.
-fn guide(amount: u64, last: u64) {
-    let c = Quarters {
-        q1: 1194,
-        q2: 1194,
-        q3: 1194,
-        q4: 1195,
+// Year c has three quarters of `c` and one of `fourth`, year b four of `b`.
+fn index(amount: u64, c: u32, fourth: u32, b: u32, last: u64) {
+    let year = Quarters {
+        q1: c,
+        q2: c,
+        q3: c,
+        q4: fourth,
     };
-    show(amount, c, quarters(961), last)
+    let base = Quarters {
+        q1: b,
+        q2: b,
+        q3: b,
+        q4: b,
+    };
+    show(indexed(amount, year, base, last));
 }
 
 pub fn all() {
     io::write_all(1, b"index\n");
-    guide(1125000, 1359100);
-    guide(12500, 15100);
-    show(50, quarters(1), quarters(1), 0);
-    show(49, quarters(1), quarters(1), 0);
-    show(150, quarters(1), quarters(1), 205);
-    show(100000000, quarters(100000), quarters(1), 10000000000000);
-    show(1, quarters(1), quarters(1), 10000000000000);
-    show(1, quarters(1), quarters(1), 10000000000001);
-    show(0, quarters(1), quarters(1), 0);
-    show(100000001, quarters(1), quarters(1), 0);
-    show(1, quarters(0), quarters(1), 0);
-    show(1, quarters(1), quarters(100001), 0);
+    // "1,125,000, quarters 4,777 and 3,844 in total, last 1,359,100: 1,398,100", "12,500, last 15,100: 15,500"
+    index(1125000, 1194, 1195, 961, 1359100);
+    index(12500, 1194, 1195, 961, 15100);
+    index(50, 1, 1, 1, 0);
+    index(49, 1, 1, 1, 0);
+    index(150, 1, 1, 1, 205);
+    index(100000000, 100000, 100000, 1, 10000000000000);
+    index(1, 1, 1, 1, 10000000000000);
+    index(1, 1, 1, 1, 10000000000001);
+    index(0, 1, 1, 1, 0);
+    index(100000001, 1, 1, 1, 0);
+    index(1, 0, 0, 1, 0);
+    index(1, 1, 1, 100001, 0);
 }

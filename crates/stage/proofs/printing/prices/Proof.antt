@@ -1,15 +1,14 @@
--- `stage::prices_of` reads within the table and ends. Assumes nothing.
+-- `stage::printing::prices` reads within the table and ends. Assumes nothing.
 use borrow.Author.Needs.{needs}
 use Prim.Native.Nat.{_≤_, _-_}
-use lib.ListN.{length}
-use Rattle.stage.proofs.prices_of.Statement.{statement}
-use Rattle.stage.proofs.prices_of.Tie as tie
+use Rattle.stage.proofs.printing.prices.Statement.{statement}
+use Rattle.stage.proofs.printing.prices.Tie as tie
 
 abbrev Inv-loop : tie.InvT-loop
-Inv-loop table k₀ k = k ≤ length table
+Inv-loop table places k₀ k = k ≤ 16
 
 abbrev μ-loop : tie.MeasureT-loop
-μ-loop table k₀ k = length table - k
+μ-loop table places k₀ k = 16 - k
 
 loop-holds : tie.Need-loop-holds Inv-loop μ-loop
 loop-holds c = search needs
@@ -17,8 +16,8 @@ loop-holds c = search needs
 mul-price : tie.Need-mul-price Inv-loop μ-loop
 mul-price c = search needs
 
-shared-slice-copy-out-price : tie.Need-shared-slice-copy-out-price Inv-loop μ-loop
-shared-slice-copy-out-price c = search needs
+element-copy-out-price : tie.Need-element-copy-out-price Inv-loop μ-loop
+element-copy-out-price c = search needs
 
 price-requires : tie.Need-price-requires Inv-loop μ-loop
 price-requires c κs = search needs
@@ -35,15 +34,15 @@ loop-again c = search needs
 returns : tie.Need-returns Inv-loop μ-loop
 returns c = search needs
 
-pub prices-of-spec : {M : Type 1} → statement M
-prices-of-spec =
+pub prices-spec : {M : Type 1} → statement M
+prices-spec =
     tie.close
     (tie.spec
     Inv-loop
     μ-loop
     loop-holds
     mul-price
-    shared-slice-copy-out-price
+    element-copy-out-price
     price-requires
     add-k
     loop-less

@@ -2,8 +2,8 @@
 use mir.Syntax.{w64}
 use Rattle.laws.proofs.Machine.{int, asks}
 use borrow.Author.Needs.{needs}
-use Rattle.stage.proofs.price.Statement.{statement}
-use Rattle.stage.proofs.price.Tie as tie
+use Rattle.stage.proofs.printing.price.Statement.{statement}
+use Rattle.stage.proofs.printing.price.Tie as tie
 
 cast-amount : tie.Need-cast-amount
 cast-amount c = asks w64 (int (c .args .cents)) (search needs) tt

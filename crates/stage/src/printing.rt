@@ -1,0 +1,126 @@
+// Prints what calls answer.
+use amount::amount_text;
+use book::record::Answer;
+use book::record::Refusal;
+use book::report::Reading;
+use entries::Publication;
+
+pub fn say(text: &[u8]) {
+    io::write_all(1, text);
+}
+
+pub fn amount(cents: i64) {
+    let mut buffer = [0u8; 24];
+    let text = amount_text(cents, &mut buffer);
+    io::write_all(1, b" ");
+    io::write_all(1, text);
+}
+
+pub fn price(cents: i32) {
+    amount(cents as i64);
+}
+
+fn number(n: u64) {
+    io::write_all(1, b" ");
+    io::print_decimal(1, n);
+}
+
+fn at(place: usize) {
+    say(b" at");
+    number(place as u64);
+}
+
+// The number of a refusal. Those from 22 on are of calls that no line has.
+fn code(r: Refusal) -> u64 {
+    match r {
+        Refusal::Invalid => 10,
+        Refusal::Length => 11,
+        Refusal::Full => 12,
+        Refusal::Number => 13,
+        Refusal::Kind => 14,
+        Refusal::Mark(_) => 15,
+        Refusal::Price(_) => 16,
+        Refusal::Factor(_) => 17,
+        Refusal::Threshold => 18,
+        Refusal::Limits => 19,
+        Refusal::Setting => 20,
+        Refusal::Market => 21,
+        _ => 22,
+    }
+}
+
+// The place of a refusal that has one.
+fn place(r: Refusal) {
+    match r {
+        Refusal::Mark(place) => at(place),
+        Refusal::Price(place) => at(place),
+        Refusal::Factor(place) => at(place),
+        _ => {}
+    }
+}
+
+fn refusal(r: Refusal) {
+    say(b" refused");
+    number(code(r));
+    place(r);
+}
+
+// An opening or a setting: nothing where it is accepted.
+pub fn answered(call: &[u8], answer: Answer) {
+    match answer {
+        Answer::Accepted => {}
+        Answer::Refused(r) => {
+            say(call);
+            refusal(r);
+            say(b"\n");
+        }
+    }
+}
+
+// An entry: the published prices and the count, or the refusal.
+pub fn published(publication: Publication, table: &[i32; 16], places: usize) {
+    match publication {
+        Publication::Count(n) => {
+            say(b"published");
+            prices(table, places);
+            say(b" count");
+            number(n as u64);
+        }
+        Publication::Refused(r) => {
+            say(b"entry");
+            refusal(r);
+        }
+    }
+    say(b"\n");
+}
+
+// The first prices of a table.
+fn prices(table: &[i32; 16], places: usize) {
+    let mut k: usize = 0;
+    while k < 16 {
+        if k < places {
+            price(table[k]);
+        }
+        k += 1;
+    }
+}
+
+// A report: sum, prices counted, mark, entries taken, or the refusal.
+pub fn reported(reading: Reading) {
+    say(b"report");
+    match reading {
+        Reading::Values {
+            sum,
+            counted,
+            mark,
+            entries,
+        } => {
+            amount(sum);
+            number(counted as u64);
+            number(mark as u64);
+            number(entries as u64);
+        }
+        Reading::Refused(r) => refusal(r),
+    }
+    say(b"\n");
+}
