@@ -1,9 +1,10 @@
-// The book record, the settings that it is opened with, and the refusals of every call on a book.
+// The book record, the settings that it is opened with, and the refusals of every call on a book with their numbers and places.
 ghost use mathlib.Core.Path.{_≡_};
-ghost use Rattle.book.specs.Record.{closed};
+ghost use Rattle.book.specs.Record.{closed, verdictOf, verdict};
 
 // A book by value. The sum and the period mark of a market stand at 11 × region + market; a region's count and next place
-// serve all its markets. `position` is the next entry's.
+// serve all its markets. `position` is the next entry's. Laid out as in C: a host keeps it between calls.
+#[repr(C)]
 pub struct Book {
     pub regions: u8,
     pub services: u8,
@@ -22,6 +23,7 @@ pub struct Book {
 }
 
 // What a book is opened with. `first` is the first position.
+#[repr(C)]
 pub struct Settings {
     pub regions: u8,
     pub services: u8,
@@ -81,5 +83,63 @@ pub fn closed() -> Book
         nexts: [0; 8],
         sums: [0; 88],
         marks: [0; 88],
+    }
+}
+
+// The paper's number of a refusal.
+pub fn number(refusal: Refusal) -> u32
+    ensures { λ r. ⌜ r ≡ verdictOf refusal .number ⌝ }
+{
+    match refusal {
+        Refusal::Invalid => 10,
+        Refusal::Length => 11,
+        Refusal::Full => 12,
+        Refusal::Number => 13,
+        Refusal::Kind => 14,
+        Refusal::Mark(_) => 15,
+        Refusal::Price(_) => 16,
+        Refusal::Factor(_) => 17,
+        Refusal::Threshold => 18,
+        Refusal::Limits => 19,
+        Refusal::Setting => 20,
+        Refusal::Market => 21,
+        Refusal::Sums => 22,
+        Refusal::Buffer => 23,
+        Refusal::ImageLength => 24,
+        Refusal::ImageKind => 25,
+        Refusal::ImageField => 26,
+        Refusal::ImageTotal => 27,
+    }
+}
+
+// The place that a refusal gives, 0 where it gives none.
+pub fn place(refusal: Refusal) -> usize
+    ensures { λ r. ⌜ r ≡ verdictOf refusal .place ⌝ }
+{
+    match refusal {
+        Refusal::Mark(place) => place,
+        Refusal::Price(place) => place,
+        Refusal::Factor(place) => place,
+        _ => 0,
+    }
+}
+
+// The number that an answer carries: 0 is an acceptance.
+pub fn number_in(answer: Answer) -> u32
+    ensures { λ r. ⌜ r ≡ verdict answer .number ⌝ }
+{
+    match answer {
+        Answer::Accepted => 0,
+        Answer::Refused(refusal) => number(refusal),
+    }
+}
+
+// The place that an answer carries.
+pub fn place_in(answer: Answer) -> usize
+    ensures { λ r. ⌜ r ≡ verdict answer .place ⌝ }
+{
+    match answer {
+        Answer::Accepted => 0,
+        Answer::Refused(refusal) => place(refusal),
     }
 }

@@ -4,6 +4,7 @@ use book::record::Answer;
 use book::record::Book;
 use book::record::Refusal;
 use book::record::closed;
+use book::record::number;
 use book::validity::valid;
 use codec::get_u8;
 use codec::get_u16;
@@ -22,7 +23,7 @@ ghost use lib.ListN.{length, replicate};
 ghost use lib.Seq.{sets};
 ghost use Rattle.laws.specs.Lists.{tabulate, allBelow, firstOf, total};
 ghost use Rattle.pricing.specs.Holding.{isEnergy, inRange};
-ghost use Rattle.book.specs.Record.{verdictOf, verdict};
+ghost use Rattle.book.specs.Record.{verdict};
 ghost use Rattle.book.specs.Validity.{valid};
 ghost use Rattle.head.specs.Counted.{marketCount, howMany};
 ghost use Rattle.image.specs.Loading.{priceAt, headVerdict, badFrom, ringOf, loadVerdict, checked, loadedWindow, windowsFrom, sumsFrom, outcome, loaded};
@@ -205,32 +206,6 @@ fn load_verdict(bytes: &[u8], ring: usize) -> Answer
             }
             Answer::Accepted
         }
-    }
-}
-
-// The paper's number of a refusal.
-pub fn number(refusal: Refusal) -> u32
-    ensures { λ r. ⌜ r ≡ verdictOf refusal .number ⌝ }
-{
-    match refusal {
-        Refusal::Invalid => 10,
-        Refusal::Length => 11,
-        Refusal::Full => 12,
-        Refusal::Number => 13,
-        Refusal::Kind => 14,
-        Refusal::Mark(_) => 15,
-        Refusal::Price(_) => 16,
-        Refusal::Factor(_) => 17,
-        Refusal::Threshold => 18,
-        Refusal::Limits => 19,
-        Refusal::Setting => 20,
-        Refusal::Market => 21,
-        Refusal::Sums => 22,
-        Refusal::Buffer => 23,
-        Refusal::ImageLength => 24,
-        Refusal::ImageKind => 25,
-        Refusal::ImageField => 26,
-        Refusal::ImageTotal => 27,
     }
 }
 

@@ -1,51 +1,21 @@
 // Records of answers, written as bytes.
 use book::record::Answer;
-use book::record::Refusal;
+use book::record::number_in;
+use book::record::place_in;
 use book::report::Reading;
 use codec::bits64;
 use codec::put;
 use codec::put_word;
 use entries::Publication;
-use image::loading::number;
 ghost use mathlib.Core.Path.{_≡_};
 ghost use Prim.Native.Nat.{_+_, _*_, _≤_};
 ghost use lib.ListN.{length};
 ghost use lib.Seq.{sets};
-ghost use Rattle.book.specs.Record.{verdictOf, verdict};
+ghost use Rattle.book.specs.Record.{verdict};
 ghost use Rattle.book.specs.Report.{numbers};
 ghost use Rattle.head.specs.Layout.{words};
 ghost use Rattle.entries.specs.Entering as Entering;
 ghost use Rattle.records.specs.Writing.{headOf, entryRecord, reportRecord};
-
-// The place that a refusal gives.
-fn place(refusal: Refusal) -> usize
-    ensures { λ r. ⌜ r ≡ verdictOf refusal .place ⌝ }
-{
-    match refusal {
-        Refusal::Mark(place) => place,
-        Refusal::Price(place) => place,
-        Refusal::Factor(place) => place,
-        _ => 0,
-    }
-}
-
-fn number_in(answer: Answer) -> u32
-    ensures { λ r. ⌜ r ≡ verdict answer .number ⌝ }
-{
-    match answer {
-        Answer::Accepted => 0,
-        Answer::Refused(refusal) => number(refusal),
-    }
-}
-
-fn place_in(answer: Answer) -> usize
-    ensures { λ r. ⌜ r ≡ verdict answer .place ⌝ }
-{
-    match answer {
-        Answer::Accepted => 0,
-        Answer::Refused(refusal) => place(refusal),
-    }
-}
 
 // The head of an answer's record: its length, the call's kind, and the number and place of a refusal.
 pub fn put_answer(answers: &mut [u8], at: usize, size: usize, kind: u16, answer: Answer)

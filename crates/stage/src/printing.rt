@@ -30,39 +30,14 @@ fn at(place: usize) {
     number(place as u64);
 }
 
-// The number of a refusal. Those from 22 on are of calls that no line has.
-fn code(r: Refusal) -> u64 {
-    match r {
-        Refusal::Invalid => 10,
-        Refusal::Length => 11,
-        Refusal::Full => 12,
-        Refusal::Number => 13,
-        Refusal::Kind => 14,
-        Refusal::Mark(_) => 15,
-        Refusal::Price(_) => 16,
-        Refusal::Factor(_) => 17,
-        Refusal::Threshold => 18,
-        Refusal::Limits => 19,
-        Refusal::Setting => 20,
-        Refusal::Market => 21,
-        _ => 22,
-    }
-}
-
-// The place of a refusal that has one.
-fn place(r: Refusal) {
-    match r {
-        Refusal::Mark(place) => at(place),
-        Refusal::Price(place) => at(place),
-        Refusal::Factor(place) => at(place),
-        _ => {}
-    }
-}
-
+// A refusal's number, and its place for 15, 16 and 17, which have one.
 fn refusal(r: Refusal) {
+    let n = book::record::number(r);
     say(b" refused");
-    number(code(r));
-    place(r);
+    number(n as u64);
+    if (15 <= n) & (n <= 17) {
+        at(book::record::place(r));
+    }
 }
 
 // An opening or a setting: nothing where it is accepted.

@@ -1,10 +1,10 @@
--- `image::loading::number` meets its contract. Assumes nothing.
+-- `book::record::number` meets its contract. Assumes nothing.
 use mathlib.Core.Path.{_≡_, sym, ap}
 use Rattle.book.specs.declared.record.Refusal.{Refusal}
 use Rattle.book.specs.Record.{verdictOf}
 use borrow.Author.Needs.{needs}
-use Rattle.image.proofs.loading.number.Statement.{statement}
-use Rattle.image.proofs.loading.number.Tie as tie
+use Rattle.book.proofs.record.number.Statement.{statement}
+use Rattle.book.proofs.record.number.Tie as tie
 
 -- the number of a refusal that is this case
 of : (r s : Refusal) → r ≡ s → verdictOf s .number ≡ verdictOf r .number

@@ -1,10 +1,10 @@
--- `records::writing::number_in` meets its contract. Assumes nothing.
+-- `book::record::number_in` meets its contract. Assumes nothing.
 use mathlib.Core.Path.{sym, ap, _∙_}
 use Rattle.book.specs.declared.record.Answer.{Answer}
 use Rattle.book.specs.Record.{verdict}
 use borrow.Author.Needs.{needs}
-use Rattle.records.proofs.writing.number_in.Statement.{statement}
-use Rattle.records.proofs.writing.number_in.Tie as tie
+use Rattle.book.proofs.record.number_in.Statement.{statement}
+use Rattle.book.proofs.record.number_in.Tie as tie
 
 enum-told : tie.Need-enum-told
 enum-told c = search needs

@@ -1,16 +1,16 @@
--- `records::writing::place` meets its contract: three cases have a place, and each other case is named. Assumes nothing.
+-- `book::record::place` meets its contract: three cases have a place, and each other case is named. Assumes nothing.
 use mathlib.Core.Path.{_≡_, refl, sym, ap}
 use mathlib.Core.List.{List, [], _∷_}
 use Prim.Native.Nat.{ℕ}
 use types.Run.{OneOf, miss}
 use denote.Enum.Declared.{tagOf}
 use Rattle.book.specs.declared.record.Refusal.{Refusal}
 use Rattle.book.specs.declared.record.Refusal.the-variants.{Invalid, Length, Full, Number, Kind, Mark, Price, Factor, Threshold, Limits, Setting, Market, Sums, Buffer, ImageLength, ImageKind, ImageField, ImageTotal}
 use Rattle.book.proofs.record.Refusal.{the-type}
 use Rattle.book.specs.Record.{verdictOf}
 use borrow.Author.Needs.{needs}
-use Rattle.records.proofs.writing.place.Statement.{statement}
-use Rattle.records.proofs.writing.place.Tie as tie
+use Rattle.book.proofs.record.place.Statement.{statement}
+use Rattle.book.proofs.record.place.Tie as tie
 
 -- the place of a refusal that is this case
 of : (r s : Refusal) → r ≡ s → verdictOf s .place ≡ verdictOf r .place
