@@ -1,17 +1,177 @@
-// What a C host calls: the index, the image check and the replay, over plain numbers and the host's own memory.
+// What a C host calls: the book that it keeps between calls, the schedule maker, the amount text, the index, the image check and the
+// replay, over plain numbers and the host's own memory. Each function is one call of the proved operation.
+use amount::write_amount;
+use book::opening::open;
+use book::record::Book;
+use book::record::Settings;
+use book::report::report;
+use book::setting::set_limits;
+use book::setting::set_threshold;
+use entries::enter;
+use face::Kept;
+use face::Rows;
+use face::Seen;
+use face::Taken;
+use face::Written;
+use face::kept_of;
+use face::rows_of;
+use face::seen_of;
+use face::taken_of;
+use face::written_of;
 use image::loading::check;
+use image::loading::load;
+use image::storing::store;
 use pricing::indexing::Answer;
 use pricing::indexing::Quarters;
 use pricing::indexing::indexed;
 use replay::replay;
+use schedule::schedule;
 ghost use mathlib.Core.Path.{_≡_};
 ghost use Prim.Native.Nat.{_≤_};
 ghost use lib.ListN.{length};
 ghost use lib.Seq.{sets};
-ghost use Rattle.image.specs.Loading.{checked};
+ghost use Rattle.amount.specs.Text.{amountText, countIn, writtenIn};
+ghost use Rattle.schedule.specs.Schedule as Schedule;
+ghost use Rattle.book.specs.Opening.{opened};
+ghost use Rattle.book.specs.Setting.{setThreshold, setLimits};
+ghost use Rattle.book.specs.Report.{reportOf};
+ghost use Rattle.publishing.specs.Entry.{entryOf};
+ghost use Rattle.entries.specs.Entering.{entered};
+ghost use Rattle.image.specs.Storing.{stored};
+ghost use Rattle.image.specs.Loading.{checked, loaded};
+ghost use Rattle.face.specs.Face.{openedOf, changedOf, takenOf, numbersOf, storedOf, loadedOf, rowsOf, energyOf};
 ghost use Rattle.replay.specs.Replay.{lentOf, outcome, replayed};
 ghost use Rattle.replay.specs.Promise.{promised};
 ghost use Rattle.capi.specs.Host.{year, indexAnswer};
+
+// The number of these conventions: a host compares it with its header's.
+#[no_mangle]
+pub extern "C" fn guxhamole_abi() -> u32
+    ensures { λ r. ⌜ r ≡ 1 ⌝ }
+{
+    1
+}
+
+// Opens a book over a ring of exactly R × M × W places.
+#[no_mangle]
+pub extern "C" fn guxhamole_open(settings: Settings, ring: &mut [i32]) -> Kept
+    ensures { λ r. ⌜ openedOf r (now (ring .exit)) ≡ opened settings (now (ring .entry)) ⌝ }
+{
+    let opened = open(settings, ring);
+    let book = opened.book;
+    let answer = opened.answer;
+    kept_of(book, answer)
+}
+
+#[no_mangle]
+pub extern "C" fn guxhamole_set_threshold(book: Book, threshold: i64) -> Kept
+    ensures { λ r. ⌜ changedOf r ≡ setThreshold book threshold ⌝ }
+{
+    let changed = set_threshold(book, threshold);
+    let after = changed.book;
+    let answer = changed.answer;
+    kept_of(after, answer)
+}
+
+#[no_mangle]
+pub extern "C" fn guxhamole_set_limits(book: Book, cap: i32, floor: i32) -> Kept
+    ensures { λ r. ⌜ changedOf r ≡ setLimits book cap floor ⌝ }
+{
+    let changed = set_limits(book, cap, floor);
+    let after = changed.book;
+    let answer = changed.answer;
+    kept_of(after, answer)
+}
+
+// A market's sum, prices counted and period mark, and the entries taken.
+#[no_mangle]
+pub extern "C" fn guxhamole_report(book: Book, region: u32, market: u32) -> Seen
+    ensures { λ r. ⌜ numbersOf r ≡ reportOf book region market ⌝ }
+{
+    let reported = report(book, region, market);
+    let reading = reported.reading;
+    seen_of(reading)
+}
+
+// The entry of an interval.
+#[no_mangle]
+pub extern "C" fn guxhamole_enter(
+    book: Book,
+    ring: &mut [i32],
+    number: u32,
+    kind: u8,
+    prices: &[i32],
+    marks: &[u8],
+    flows: &[i32],
+    factors: &[u32],
+    schedule: &[i32],
+    table: &mut [i32],
+) -> Taken
+    ensures { λ r. ⌜ (let entry = entryOf kind (now (prices .entry)) (now (marks .entry)) (now (flows .entry)) (now (factors .entry))
+        (now (schedule .entry)) in
+        takenOf r (now (ring .exit)) (now (table .exit)) ≡ entered book (now (ring .entry)) number entry (now (table .entry))) ⌝ }
+{
+    let entered = enter(
+        book,
+        ring,
+        number,
+        kind,
+        prices,
+        marks,
+        flows,
+        factors,
+        schedule,
+        table,
+    );
+    let after = entered.book;
+    let publication = entered.publication;
+    taken_of(after, publication)
+}
+
+// The image as the first bytes of `image`; the bytes after it stay.
+#[no_mangle]
+pub extern "C" fn guxhamole_store(book: Book, ring: &[i32], image: &mut [u8]) -> Written
+    ensures { λ r. ⌜ storedOf r book (now (image .exit)) ≡ stored book (now (ring .entry)) (now (image .entry)) ⌝ }
+{
+    let stored = store(book, ring, image);
+    let answer = stored.image;
+    written_of(answer)
+}
+
+// The book of an image, with its prices in `ring`.
+#[no_mangle]
+pub extern "C" fn guxhamole_load(image: &[u8], ring: &mut [i32]) -> Kept
+    ensures { λ r. ⌜ loadedOf r (now (ring .exit)) ≡ loaded (now (image .entry)) (now (ring .entry)) ⌝ }
+{
+    let loaded = load(image, ring);
+    let book = loaded.book;
+    let answer = loaded.answer;
+    kept_of(book, answer)
+}
+
+// The schedule of one market from 28 days of prices and their kinds; `energy` 0 is a service, anything else energy.
+#[no_mangle]
+pub extern "C" fn guxhamole_schedule(
+    halves: u8,
+    cap: i32,
+    floor: i32,
+    energy: u8,
+    prices: &[i32],
+    kinds: &[u8],
+) -> Rows
+    ensures { λ r. ⌜ rowsOf r ≡ Schedule.schedule halves cap floor (energyOf energy) (now (prices .entry)) (now (kinds .entry)) ⌝ }
+{
+    rows_of(schedule(halves, cap, floor, energy != 0, prices, kinds))
+}
+
+// The text of an amount as the first bytes of `buffer`, and how many they are; 0 where there is no room.
+#[no_mangle]
+pub extern "C" fn guxhamole_amount_text(cents: i64, buffer: &mut [u8]) -> usize
+    ensures { λ r. ⌜ r ≡ countIn (amountText cents) (now (buffer .entry)) ⌝ }
+    ensures { λ r. ⌜ now (buffer .exit) ≡ writtenIn (amountText cents) (now (buffer .entry)) ⌝ }
+{
+    write_amount(cents, buffer)
+}
 
 // The indexed amount in whole dollars, or -30: an amount, the four quarters of year c and of year b, last year's amount.
 #[no_mangle]

@@ -1,0 +1,23 @@
+-- `capi::guxhamole_store` meets its contract: it is the store. Assumes nothing.
+use Rattle.face.proofs.Answers.{stored-by}
+use borrow.Author.Needs.{needs}
+use Rattle.capi.proofs.guxhamole_store.Statement.{statement}
+use Rattle.capi.proofs.guxhamole_store.Tie as tie
+
+store-requires : tie.Need-store-requires
+store-requires c κs = search needs
+
+written-of-requires : tie.Need-written-of-requires
+written-of-requires c κs = search needs
+
+same-length : tie.Need-same-length
+same-length c = search needs
+
+returns : tie.Need-returns
+returns c =
+    let a = c .before .before .before .before .before .before .args in
+    stored-by (a .book) (a .ring .now) (a .image .now) (c .written-of .result) (c .written-of .ensures)
+    (c .before .before .before .store .ensures)
+
+pub guxhamole-store-spec : {M : Type 1} → statement M
+guxhamole-store-spec = tie.close (tie.spec store-requires written-of-requires same-length returns)

@@ -1,0 +1,99 @@
+-- From what a call of the book promised and what was made of its answer to what the host holds. Assumes nothing.
+use mathlib.Core.Path.{_≡_, refl, sym, ap, _∙_}
+use mathlib.Core.Bool.{Bool, true, false, not, _&&_}
+use mathlib.Core.List.{List}
+use Prim.Native.Nat.{ℕ}
+use lib.Dec.{eqb, leb, ltb}
+use lib.IntN.{ℤ}
+use lib.ListN.{length}
+use Rattle.laws.specs.Base.{pick}
+use Rattle.laws.proofs.Tests.{by-test}
+use Rattle.pricing.specs.Verdict.{Verdict, accepted, refused}
+use Rattle.book.specs.declared.record.Book.{Book}
+use Rattle.book.specs.Record.{ringSize, isAccepted}
+use Rattle.book.specs.Validity.{valid}
+use Rattle.book.specs.Opening as Opening
+use Rattle.book.specs.Setting as Setting
+use Rattle.book.specs.Report.{Numbers, nothing, reportVerdict, reportOf}
+use Rattle.head.specs.Layout.{lengthOf}
+use Rattle.image.specs.Storing as Storing
+use Rattle.image.specs.Storing.{pricesOk, storeVerdict, stored}
+use Rattle.image.specs.Loading as Loading
+use Rattle.entries.specs.Entering as Entering
+use Rattle.face.specs.declared.Kept.{Kept}
+use Rattle.face.specs.declared.Taken.{Taken}
+use Rattle.face.specs.declared.Seen.{Seen}
+use Rattle.face.specs.declared.Written.{Written}
+use Rattle.face.specs.Face.{verdictBy, keptBy, takenBy, seenBy, writtenBy}
+use Rattle.face.specs.Face.{openedOf, changedOf, loadedOf, takenOf, numbersOf, storedOf}
+
+-- ---- calls that hand back a book
+module _ (k : Kept) {v : Verdict} {b : Book} (e : k ≡ keptBy v b) where
+  pub opened-by : {ring : List ℤ} {o : Opening.Outcome} → record { verdict = v; book = b; ring = ring } ≡ o → openedOf k ring ≡ o
+  opened-by {ring} h = ap (λ (x : Kept). openedOf x ring) e ∙ h
+
+  pub changed-by : {o : Setting.Outcome} → record { verdict = v; book = b } ≡ o → changedOf k ≡ o
+  changed-by h = ap changedOf e ∙ h
+
+  pub loaded-by : {ring : List ℤ} {o : Loading.Outcome} → record { verdict = v; book = b; ring = ring } ≡ o → loadedOf k ring ≡ o
+  loaded-by {ring} h = ap (λ (x : Kept). loadedOf x ring) e ∙ h
+
+pub taken-by : (r : Taken) {v : Verdict} {count : ℕ} {b : Book} {ring table : List ℤ} {o : Entering.Outcome} → r ≡ takenBy v count b
+    → record { verdict = v; count = count; book = b; ring = ring; table = table } ≡ o → takenOf r ring table ≡ o
+taken-by r {ring = ring} {table = table} e h = ap (λ (x : Taken). takenOf x ring table) e ∙ h
+
+-- ---- a report and a store: none of their refusals has a place
+by-report : (a b : Bool) (n : Numbers) → n .verdict .place ≡ 0
+    → pick a (nothing (refused 10)) (pick (isAccepted (pick b (refused 21) accepted)) n (nothing (pick b (refused 21) accepted)))
+    .verdict .place ≡ 0
+by-report true b n e = refl
+by-report false true n e = refl
+by-report false false n e = e
+
+report-place : (b : Book) (region market : ℕ) → reportOf b region market .verdict .place ≡ 0
+unfolding reportOf reportVerdict
+report-place b region market = by-report (not (valid b)) (not (ltb region (b .regions) && leb market (b .services))) _ refl
+
+-- numbers with another place
+abbrev numbersAt : Numbers → ℕ → Numbers
+numbersAt n p =
+    record { verdict = verdictBy (n .verdict .number) p; sum = n .sum; counted = n .counted; mark = n .mark; entries = n .entries }
+
+pub seen-by : (r : Seen) {n : Numbers} (b : Book) (region market : ℕ) → r ≡ seenBy n → n ≡ reportOf b region market
+    → numbersOf r ≡ reportOf b region market
+seen-by r b region market e h =
+    let o = reportOf b region market in
+    ap numbersOf (e ∙ ap seenBy h)
+    ∙ ap (λ (p : ℕ). numbersAt o p) (sym (report-place b region market))
+
+by-store : (a b c d : Bool)
+    → pick a (refused 10) (pick b (refused 11) (pick c (refused 22) (pick d (refused 23) accepted))) .place ≡ 0
+by-store true b c d = refl
+by-store false true c d = refl
+by-store false false true d = refl
+by-store false false false true = refl
+by-store false false false false = refl
+
+module _ (b : Book) (ring : List ℤ) (buffer : List ℕ) where
+  verdict-place : storeVerdict b ring (length buffer) .place ≡ 0
+  unfolding storeVerdict
+  verdict-place =
+      by-store (not (valid b)) (not (eqb (length ring) (ringSize (b .regions) (b .services) (b .window)))) (not (pricesOk b ring))
+      (ltb (length buffer) (lengthOf b))
+
+  store-place : stored b ring buffer .verdict .place ≡ 0
+  unfolding stored
+  store-place =
+      by-test (isAccepted (storeVerdict b ring (length buffer))) (λ t. rw t refl) (λ t. rw t verdict-place)
+
+  store-book : stored b ring buffer .book ≡ b
+  unfolding stored
+  store-book = by-test (isAccepted (storeVerdict b ring (length buffer))) (λ t. rw t refl) (λ t. rw t refl)
+
+  pub stored-by : (r : Written) {v : Verdict} {n : ℕ} {c : Book} {after : List ℕ} → r ≡ writtenBy v n
+      → record { verdict = v; length = n; book = c; buffer = after } ≡ stored b ring buffer
+      → storedOf r b after ≡ stored b ring buffer
+  stored-by r {v} {n} {c} {after} e h =
+      let p : v .place ≡ 0 = ap (λ (x : Storing.Outcome). x .verdict .place) h ∙ store-place in
+      let q : c ≡ b = ap (λ (x : Storing.Outcome). x .book) h ∙ store-book in
+      ap (λ (x : Written). storedOf x b after) e ∙ (rw (p, q) at h)

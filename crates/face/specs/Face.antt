@@ -1,0 +1,67 @@
+-- What a host in C is answered, and the outcome of the call's own definition that it stands for. Assumes nothing.
+use mathlib.Core.Bool.{Bool, not}
+use mathlib.Core.List.{List}
+use Prim.Native.Nat.{ℕ}
+use lib.Dec.{eqb}
+use lib.IntN.{ℤ}
+use Rattle.pricing.specs.Verdict.{Verdict}
+use Rattle.book.specs.declared.record.Book.{Book}
+use Rattle.book.specs.Opening as Opening
+use Rattle.book.specs.Setting as Setting
+use Rattle.book.specs.Report as Report
+use Rattle.image.specs.Storing as Storing
+use Rattle.image.specs.Loading as Loading
+use Rattle.entries.specs.Entering as Entering
+use Rattle.schedule.specs.Schedule as Schedule
+use Rattle.face.specs.declared.Kept.{Kept}
+use Rattle.face.specs.declared.Taken.{Taken}
+use Rattle.face.specs.declared.Seen.{Seen}
+use Rattle.face.specs.declared.Written.{Written}
+use Rattle.face.specs.declared.Rows.{Rows}
+
+-- "number" and "place" beside each other: number 0 is an acceptance
+abbrev pub verdictBy : ℕ → ℕ → Verdict
+verdictBy number place = record { number = number; place = place }
+
+-- ---- an answer as the outcome that it stands for, with the lent slices as they then are
+abbrev pub openedOf : Kept → List ℤ → Opening.Outcome
+openedOf r ring = record { verdict = verdictBy (r .number) (r .place); book = r .book; ring = ring }
+
+abbrev pub changedOf : Kept → Setting.Outcome
+changedOf r = record { verdict = verdictBy (r .number) (r .place); book = r .book }
+
+abbrev pub loadedOf : Kept → List ℤ → Loading.Outcome
+loadedOf r ring = record { verdict = verdictBy (r .number) (r .place); book = r .book; ring = ring }
+
+abbrev pub takenOf : Taken → List ℤ → List ℤ → Entering.Outcome
+takenOf r ring table =
+    record { verdict = verdictBy (r .number) (r .place); count = r .count; book = r .book; ring = ring; table = table }
+
+-- "Report: 10; 21", which have no place
+abbrev pub numbersOf : Seen → Report.Numbers
+numbersOf r =
+    record { verdict = verdictBy (r .number) 0; sum = r .sum; counted = r .counted; mark = r .mark; entries = r .entries }
+
+-- "Store: 10; 11; 22 ..; 23", which have no place; the book is the caller's
+abbrev pub storedOf : Written → Book → List ℕ → Storing.Outcome
+storedOf r book buffer = record { verdict = verdictBy (r .number) 0; length = r .length; book = book; buffer = buffer }
+
+abbrev pub rowsOf : Rows → Schedule.Outcome
+rowsOf r = record { verdict = verdictBy (r .number) (r .place); weekday = r .weekday; weekend = r .weekend }
+
+-- a byte from C: 0 is a service, anything else energy
+abbrev pub energyOf : ℕ → Bool
+energyOf energy = not (eqb energy 0)
+
+-- ---- the answer that carries an outcome's numbers
+abbrev pub keptBy : Verdict → Book → Kept
+keptBy v book = record { book = book; number = v .number; place = v .place }
+
+abbrev pub takenBy : Verdict → ℕ → Book → Taken
+takenBy v count book = record { book = book; number = v .number; place = v .place; count = count }
+
+abbrev pub seenBy : Report.Numbers → Seen
+seenBy n = record { number = n .verdict .number; counted = n .counted; mark = n .mark; entries = n .entries; sum = n .sum }
+
+abbrev pub writtenBy : Verdict → ℕ → Written
+writtenBy v length = record { number = v .number; length = length }

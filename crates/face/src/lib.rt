@@ -1,0 +1,170 @@
+// What a host in C is answered: the answers of the calls on a book, and of the schedule maker, as plain structs laid out as in C.
+use book::record::Answer;
+use book::record::Book;
+use book::record::number;
+use book::record::number_in;
+use book::record::place;
+use book::record::place_in;
+use book::report::Reading;
+use entries::Publication;
+use image::storing::Image;
+use schedule::Making;
+ghost use mathlib.Core.Path.{_≡_};
+ghost use Rattle.book.specs.Record.{verdict};
+ghost use Rattle.book.specs.Report.{numbers};
+ghost use Rattle.entries.specs.Entering as Entering;
+ghost use Rattle.image.specs.Storing as Storing;
+ghost use Rattle.schedule.specs.Schedule.{verdictOf, answered};
+ghost use Rattle.face.specs.Face.{keptBy, takenBy, seenBy, writtenBy, rowsOf};
+
+// `guxhamole_kept`: a call that hands back a book and nothing else.
+#[repr(C)]
+pub struct Kept {
+    pub book: Book,
+    pub number: u32,
+    pub place: u64,
+}
+
+// `guxhamole_entered`: an entry.
+#[repr(C)]
+pub struct Taken {
+    pub book: Book,
+    pub number: u32,
+    pub place: u64,
+    pub count: u32,
+}
+
+// `guxhamole_reading`: a report. Its refusals have no place.
+#[repr(C)]
+pub struct Seen {
+    pub number: u32,
+    pub counted: u32,
+    pub mark: u32,
+    pub entries: u32,
+    pub sum: i64,
+}
+
+// `guxhamole_stored`: an image's length. A store's refusals have no place.
+#[repr(C)]
+pub struct Written {
+    pub number: u32,
+    pub length: u64,
+}
+
+// `guxhamole_rows`: a schedule.
+#[repr(C)]
+pub struct Rows {
+    pub number: u32,
+    pub place: u64,
+    pub weekday: [i32; 48],
+    pub weekend: [i32; 48],
+}
+
+pub fn kept_of(book: Book, answer: Answer) -> Kept
+    ensures { λ r. ⌜ r ≡ keptBy (verdict answer) book ⌝ }
+{
+    Kept {
+        book,
+        number: number_in(answer),
+        place: place_in(answer) as u64,
+    }
+}
+
+pub fn taken_of(book: Book, publication: Publication) -> Taken
+    ensures { λ r. ⌜ r ≡ takenBy (Entering.verdict publication) (Entering.count publication) book ⌝ }
+{
+    match publication {
+        Publication::Count(count) => Taken {
+            book,
+            number: 0,
+            place: 0,
+            count,
+        },
+        Publication::Refused(refusal) => Taken {
+            book,
+            number: number(refusal),
+            place: place(refusal) as u64,
+            count: 0,
+        },
+    }
+}
+
+pub fn seen_of(reading: Reading) -> Seen
+    ensures { λ r. ⌜ r ≡ seenBy (numbers reading) ⌝ }
+{
+    match reading {
+        Reading::Values {
+            sum,
+            counted,
+            mark,
+            entries,
+        } => Seen {
+            number: 0,
+            counted: counted as u32,
+            mark: mark as u32,
+            entries,
+            sum,
+        },
+        Reading::Refused(refusal) => Seen {
+            number: number(refusal),
+            counted: 0,
+            mark: 0,
+            entries: 0,
+            sum: 0,
+        },
+    }
+}
+
+pub fn written_of(image: Image) -> Written
+    ensures { λ r. ⌜ r ≡ writtenBy (Storing.verdict image) (Storing.lengthIn image) ⌝ }
+{
+    match image {
+        Image::Length(length) => Written {
+            number: 0,
+            length: length as u64,
+        },
+        Image::Refused(refusal) => Written {
+            number: number(refusal),
+            length: 0,
+        },
+    }
+}
+
+pub fn rows_of(answer: schedule::Answer) -> Rows
+    ensures { λ r. ⌜ rowsOf r ≡ answered answer ⌝ }
+{
+    let making = answer.making;
+    let weekday = answer.weekday;
+    let weekend = answer.weekend;
+    Rows {
+        number: number_of(making),
+        place: place_of(making) as u64,
+        weekday,
+        weekend,
+    }
+}
+
+// The paper's number of what became of a schedule: 0 is one that was made.
+fn number_of(making: Making) -> u32
+    ensures { λ r. ⌜ r ≡ verdictOf making .number ⌝ }
+{
+    match making {
+        Making::Made => 0,
+        Making::Sizes => 31,
+        Making::Kinds => 32,
+        Making::Limits => 19,
+        Making::Price(_) => 16,
+    }
+}
+
+fn place_of(making: Making) -> usize
+    ensures { λ r. ⌜ r ≡ verdictOf making .place ⌝ }
+{
+    match making {
+        Making::Made => 0,
+        Making::Sizes => 0,
+        Making::Kinds => 0,
+        Making::Limits => 0,
+        Making::Price(place) => place,
+    }
+}

@@ -1,0 +1,1 @@
+// No code: demand 3 over sequences of C calls.
