@@ -31,7 +31,7 @@ static void put_head(uint32_t length, unsigned kind)
     put(2, kind);
 }
 
-/* Of one half-hour a day, with threshold 95,000 and limits of 60,000. */
+/* Of one half-hour a day, with threshold 90,000 and limits of 60,000. */
 static void put_opening(unsigned regions, unsigned services, unsigned window, const uint8_t *parents)
 {
     put_head(38, 64);
@@ -43,7 +43,7 @@ static void put_opening(unsigned regions, unsigned services, unsigned window, co
     put(2, 0);
     for (int i = 0; i < 8; i++)
         put(1, parents[i]);
-    put(8, 95000);
+    put(8, 90000);
     put(4, 60000);
     put(4, -60000);
 }
