@@ -316,9 +316,9 @@ class Book:
         answer = _accepted(_face().guxhamole_store(self._book, *_lent(self._ring, image)))
         return bytes(image)[:answer.length]
 
-    def __copy__(self) -> "Book":
-        """A book with a ring of its own, since two books that write to one ring are neither's."""
-        return Book.load(self.store())
+    def __reduce__(self):
+        """A copy, or a book that was pickled, has a ring of its own: two books on one ring would spoil each other."""
+        return Book.load, (self.store(),)
 
     @property
     def regions(self) -> int:
