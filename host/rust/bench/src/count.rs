@@ -1,46 +1,77 @@
-//! Entries of the real market to be counted by instructions rather than timed: `bench count proved|fast free|administered [N]`.
-//! Under callgrind's `--toggle-collect='*count::counted*'` the entries of a full window alone are counted.
+//! Calls to be counted by instructions rather than timed: `bench count proved|fast` and, where it is not the real market's free
+//! entry, the words `small`, `administered`, `report`, `store` or `load`. Under callgrind's `--toggle-collect='*count::counted*'` the
+//! calls themselves are counted, on a book whose window is full.
 
 use crate::lists::{Market, Trade, Trading};
-use crate::typed::{Host, Typed};
+use crate::typed::{Host, Typed, CALLS};
 
 use std::hint::black_box;
-use std::ops::Range;
 
-/// How many entries are counted where the arguments don't say.
-const ENTRIES: usize = 1_000;
+/// How many calls are counted.
+const TIMES: usize = 1_000;
 
-/// Plays what the words after `count` say; nothing where they are no such words.
-pub fn run(market: &Market, words: &[String]) -> Option<()> {
-    let words: Vec<&str> = words.iter().map(String::as_str).collect();
-    let (player, trade, entries) = match words[..] {
-        [player, trade] => (player, trade, ENTRIES),
-        [player, trade, entries] => (player, trade, entries.parse().ok()?),
-        _ => return None,
+/// What is counted.
+struct Counting {
+    market: Market,
+    trade: Trade,
+    call: &'static str,
+}
+
+/// Makes the calls that the words after `count` say; nothing where they are no such words.
+pub fn run(real: &Market, small: &Market, words: &[String]) -> Option<()> {
+    let (player, words) = words.split_first()?;
+    let mut counting = Counting {
+        market: *real,
+        trade: Trade::Free,
+        call: CALLS[0],
     };
-    let trade = match trade {
-        "free" => Trade::Free,
-        "administered" => Trade::Administered,
+    for word in words {
+        match word.as_str() {
+            "small" => counting.market = *small,
+            "administered" => counting.trade = Trade::Administered,
+            call => counting.call = CALLS.iter().find(|&&known| known == call)?,
+        }
+    }
+    match player.as_str() {
+        "proved" => counting.play::<guxhamole::Book>(),
+        "fast" => counting.play::<fast::Book>(),
         _ => return None,
-    };
-    let changed = match player {
-        "proved" => play::<guxhamole::Book>(market, trade, entries),
-        "fast" => play::<fast::Book>(market, trade, entries),
-        _ => return None,
-    };
-    println!("{player}, {market}, {trade}: {entries} entries, {changed} prices changed");
+    }
+    let Counting {
+        market,
+        trade,
+        call,
+    } = counting;
+    println!("{player}, {market}, {trade}: {call}, {TIMES} times");
     Some(())
 }
 
-fn play<B: Typed>(market: &Market, trade: Trade, entries: usize) -> u32 {
-    let full = usize::from(market.window);
-    let trading = Trading::new(market, trade, full, full + entries);
-    let mut host: Host<B> = Host::new(market, &trading);
-    host.enter(&trading, 0..full);
-    counted(&mut host, &trading, full..full + entries)
+impl Counting {
+    fn play<B: Typed>(&self) {
+        let full = usize::from(self.market.window);
+        let trading = Trading::new(&self.market, self.trade, full, full + TIMES);
+        let mut host: Host<B> = Host::new(&self.market, &trading);
+        host.enter(&trading, 0..full);
+        let image = host.store();
+        counted(&mut host, &trading, self.call, image);
+    }
 }
 
 #[inline(never)]
-fn counted<B: Typed>(host: &mut Host<B>, trading: &Trading, entries: Range<usize>) -> u32 {
-    black_box(host.enter(trading, entries))
+fn counted<B: Typed>(host: &mut Host<B>, trading: &Trading, call: &str, image: usize) {
+    let full = usize::from(trading.settings.window);
+    match call {
+        "report" => repeated(|| host.report(0)),
+        "store" => repeated(|| host.store()),
+        "load" => repeated(|| host.load(image)),
+        _ => {
+            black_box(host.enter(trading, full..full + TIMES));
+        }
+    }
+}
+
+fn repeated<A>(mut call: impl FnMut() -> A) {
+    for _ in 0..TIMES {
+        black_box(call());
+    }
 }

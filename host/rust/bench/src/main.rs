@@ -34,30 +34,24 @@ const SMALL_ENTRIES: usize = 40_000;
 const RESTARTS: usize = 40;
 
 fn main() {
-    let words: Vec<String> = std::env::args().skip(1).collect();
-    let rounds = match &words[..] {
-        [] => Some(21),
-        [rounds] => rounds.parse().ok(),
-        [_, rest @ ..] if words[0] == "count" => {
-            if count::run(&REAL, rest).is_some() {
-                return;
-            }
-            None
-        }
+    let mut words: Vec<String> = std::env::args().skip(1).collect();
+    if words.is_empty() {
+        words.push("21".to_string());
+    }
+    let done = match words.split_first() {
+        Some((word, rest)) if word == "count" => count::run(&REAL, &SMALL, rest),
+        Some((rounds, [])) => rounds.parse().ok().map(all_tables),
         _ => None,
     };
-    match rounds {
-        Some(rounds) => all_tables(std::cmp::max(rounds, 1)),
-        None => usage(),
+    if done.is_none() {
+        eprintln!("bench [ROUNDS]");
+        eprintln!("bench count proved|fast [small] [administered] [report|store|load]");
+        std::process::exit(2);
     }
 }
 
-fn usage() {
-    eprintln!("bench [ROUNDS], or bench count proved|fast free|administered [ENTRIES]");
-    std::process::exit(2);
-}
-
 fn all_tables(rounds: usize) {
+    let rounds = std::cmp::max(rounds, 1);
     println!("nanoseconds of processor time: median of {rounds} rounds (least, or difference of least times)");
     typed_calls(rounds);
     steady(rounds);

@@ -147,18 +147,33 @@ impl<B: Typed> Host<B> {
         changed
     }
 
+    /// A report of a region's energy.
+    pub fn report(&self, region: u32) -> (i64, u32, u32, u32) {
+        self.book.report(region, 0)
+    }
+
+    /// Stores the book. Answers the image's length.
+    pub fn store(&mut self) -> usize {
+        self.book.store(&self.ring, &mut self.image)
+    }
+
+    /// Loads the image, of this length, into the other ring.
+    pub fn load(&mut self, length: usize) -> B {
+        B::load(&self.image[..length], &mut self.other)
+    }
+
     /// Nanoseconds of an entry, a report, a store and a load. The entries begin where `start` stands.
     fn times(&mut self, start: &Host<B>, trading: &Trading, entries: Range<usize>) -> [f64; 4] {
         self.book = start.book.clone();
         self.ring.copy_from_slice(&start.ring);
         let number = entries.len();
-        let entry = timed(1, || black_box(self.enter(trading, entries.clone())));
-        let mut markets = (0..u32::from(trading.settings.regions)).cycle();
-        let report = timed(number, || self.book.report(markets.next().unwrap_or(0), 0));
+        let entry = timed(1, || self.enter(trading, entries.clone()));
+        let mut regions = (0..u32::from(trading.settings.regions)).cycle();
+        let report = timed(number, || self.report(regions.next().unwrap_or(0)));
         let images = (2_000_000 / self.ring.len()).clamp(20, 2_000);
-        let store = timed(images, || self.book.store(&self.ring, &mut self.image));
-        let length = self.book.store(&self.ring, &mut self.image);
-        let load = timed(images, || B::load(&self.image[..length], &mut self.other));
+        let store = timed(images, || self.store());
+        let length = self.store();
+        let load = timed(images, || self.load(length));
         [entry / number as f64, report, store, load]
     }
 }
@@ -243,7 +258,7 @@ fn reports<B: Typed>(market: &Market, host: &Host<B>) -> Vec<(i64, u32, u32, u32
 
 /// A book's image, and the ring that it loads.
 fn restarted<B: Typed>(host: &mut Host<B>) -> (&[u8], &[i32]) {
-    let length = host.book.store(&host.ring, &mut host.image);
-    B::load(&host.image[..length], &mut host.other);
+    let length = host.store();
+    host.load(length);
     (&host.image[..length], &host.other)
 }
