@@ -1,5 +1,6 @@
-//! Lists of calls as the bytes of docs/RECORDS.md, the same at every run.
+//! Entries, openings and lists of calls, the same at every run: as typed slices, and as the bytes of docs/RECORDS.md.
 
+use guxhamole::Settings;
 use std::fmt;
 
 /// The settings of a book that decide how much work an entry is.
@@ -56,6 +57,23 @@ impl fmt::Display for Trade {
     }
 }
 
+/// What an entry lends, but for schedule, ring and table.
+pub struct Interval {
+    pub number: u32,
+    pub day_kind: u8,
+    pub prices: Vec<i32>,
+    pub marks: Vec<u8>,
+    pub flows: Vec<i32>,
+    pub factors: Vec<u32>,
+}
+
+/// A book's settings, entries, and the schedule that every one of them is lent.
+pub struct Trading {
+    pub settings: Settings,
+    pub schedule: Vec<i32>,
+    pub intervals: Vec<Interval>,
+}
+
 /// A list's bytes and where each record ends, the opening first.
 pub struct List {
     pub calls: Vec<u8>,
@@ -78,23 +96,37 @@ impl Random {
 
 const CAP: i32 = 60_000;
 
+impl Trading {
+    /// Entries from number 0 on; marks begin once `unmarked` are taken.
+    pub fn new(market: &Market, trade: Trade, unmarked: usize, entries: usize) -> Trading {
+        let mut random = Random(u64::from(market.window));
+        let schedule = (0..market.schedule())
+            .map(|_| random.between(-70_000, 90_000))
+            .collect();
+        let interval = |number: usize| {
+            let marked = trade == Trade::Administered && number >= unmarked;
+            interval(market, trade, number, marked, &mut random)
+        };
+        Trading {
+            settings: settings(market, trade),
+            schedule,
+            intervals: (0..entries).map(interval).collect(),
+        }
+    }
+}
+
 impl List {
     /// An opening and entries; marks begin once `unmarked` are taken.
     pub fn of_entries(market: &Market, trade: Trade, unmarked: usize, entries: usize) -> List {
-        let mut random = Random(u64::from(market.window));
-        let mut schedule = Vec::new();
-        for _ in 0..market.schedule() {
-            schedule.extend(random.between(-70_000, 90_000).to_le_bytes());
-        }
+        let trading = Trading::new(market, trade, unmarked, entries);
+        let schedule = four_bytes(trading.schedule.iter().map(|price| price.to_le_bytes()));
         let mut list = List {
             calls: Vec::new(),
             ends: Vec::new(),
         };
-        list.put(64, &opening(market, trade));
-        for number in 0..entries {
-            let marked = trade == Trade::Administered && number >= unmarked;
-            let fields = entry(market, trade, number, marked, &mut random, &schedule);
-            list.put(65, &fields);
+        list.put(64, &opening(&trading.settings));
+        for interval in &trading.intervals {
+            list.put(65, &entry(market, interval, &schedule));
         }
         list
     }
@@ -118,39 +150,75 @@ impl List {
 }
 
 /// The real market's links, as far as there are regions; a threshold of 500 dollars a price, or the highest.
-fn opening(market: &Market, trade: Trade) -> Vec<u8> {
+fn settings(market: &Market, trade: Trade) -> Settings {
     let mut parents = [255u8; 8];
     for (region, parent) in [(1, 0), (2, 0), (3, 2), (4, 2)] {
         if region < usize::from(market.regions) {
             parents[region] = parent;
         }
     }
-    let threshold = match trade {
-        Trade::Free => 100_000_000_000,
-        Trade::Administered => 50_000 * i64::from(market.window),
-    };
-    let mut fields = vec![market.regions, market.services];
-    fields.extend(market.window.to_le_bytes());
-    fields.extend([market.halves, 0, 0, 0]);
-    fields.extend(parents);
-    fields.extend(threshold.to_le_bytes());
-    fields.extend(CAP.to_le_bytes());
-    fields.extend((-CAP).to_le_bytes());
-    fields
+    Settings {
+        regions: market.regions,
+        services: market.services,
+        window: market.window,
+        halves: market.halves,
+        first: 0,
+        parents,
+        threshold: match trade {
+            Trade::Free => 100_000_000_000,
+            Trade::Administered => 50_000 * i64::from(market.window),
+        },
+        cap: CAP,
+        floor: -CAP,
+    }
 }
 
-/// An entry's fields, from its number on.
-fn entry(
+fn interval(
     market: &Market,
     trade: Trade,
     number: usize,
     marked: bool,
     random: &mut Random,
-    schedule: &[u8],
-) -> Vec<u8> {
+) -> Interval {
     let regions = usize::from(market.regions);
-    let mut fields = (number as u32).to_le_bytes().to_vec();
-    fields.extend([(number / 288 % 7 / 5) as u8, 0]);
+    let places = (0..regions).flat_map(|region| (0..=market.services).map(move |at| (region, at)));
+    let prices = places.map(|(region, at)| price(trade, region, at, random));
+    Interval {
+        number: number as u32,
+        day_kind: (number / 288 % 7 / 5) as u8,
+        prices: prices.collect(),
+        marks: (0..regions)
+            .map(|region| (marked && (number / 12 + region).is_multiple_of(4)).into())
+            .collect(),
+        flows: (0..regions)
+            .map(|_| random.between(-1_000, 1_000))
+            .collect(),
+        factors: (0..regions)
+            .map(|_| random.between(10_000, 13_000) as u32)
+            .collect(),
+    }
+}
+
+fn four_bytes(numbers: impl Iterator<Item = [u8; 4]>) -> Vec<u8> {
+    numbers.flatten().collect()
+}
+
+/// An opening's fields.
+fn opening(settings: &Settings) -> Vec<u8> {
+    let mut fields = vec![settings.regions, settings.services];
+    fields.extend(settings.window.to_le_bytes());
+    fields.extend([settings.halves, 0]);
+    fields.extend(settings.first.to_le_bytes());
+    fields.extend(settings.parents);
+    fields.extend(settings.threshold.to_le_bytes());
+    fields.extend(settings.cap.to_le_bytes());
+    fields.extend(settings.floor.to_le_bytes());
+    fields
+}
+
+/// An entry's fields, from its number on.
+fn entry(market: &Market, interval: &Interval, schedule: &[u8]) -> Vec<u8> {
+    let regions = usize::from(market.regions);
     let lengths = [
         market.prices(),
         regions,
@@ -160,23 +228,19 @@ fn entry(
         market.prices(),
         market.ring(),
     ];
-    for length in lengths {
-        fields.extend((length as u32).to_le_bytes());
-    }
-    for region in 0..regions {
-        for service in 0..=market.services {
-            fields.extend(price(trade, region, service, random).to_le_bytes());
-        }
-    }
-    for region in 0..regions {
-        fields.push((marked && (number / 12 + region).is_multiple_of(4)).into());
-    }
-    for _ in 0..regions {
-        fields.extend(random.between(-1_000, 1_000).to_le_bytes());
-    }
-    for _ in 0..regions {
-        fields.extend(random.between(10_000, 13_000).to_le_bytes());
-    }
+    let mut fields = interval.number.to_le_bytes().to_vec();
+    fields.extend([interval.day_kind, 0]);
+    fields.extend(lengths.map(|length| (length as u32).to_le_bytes()).concat());
+    fields.extend(four_bytes(
+        interval.prices.iter().map(|price| price.to_le_bytes()),
+    ));
+    fields.extend(&interval.marks);
+    fields.extend(four_bytes(
+        interval.flows.iter().map(|flow| flow.to_le_bytes()),
+    ));
+    fields.extend(four_bytes(
+        interval.factors.iter().map(|factor| factor.to_le_bytes()),
+    ));
     fields.extend(schedule);
     fields.resize(fields.len() + 4 * market.prices(), 0);
     fields

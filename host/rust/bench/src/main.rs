@@ -1,10 +1,13 @@
-//! Measures the proved replay beside the fast one, on the same bytes: entries, restarts, and whether an entry's cost grows with
-//! the window or with the history. The one argument is the number of rounds. docs/PERFORMANCE.md says how to read the tables.
+//! Measures the proved functions beside the hand-written ones: the typed calls over the same slices, then the replay on the same
+//! bytes, entries, restarts, and whether an entry's cost grows with the window or with the history. The one argument is the
+//! number of rounds; or `count ..` plays entries to be counted by instructions. docs/PERFORMANCE.md says how to read the tables.
 
 mod clock;
+mod count;
 mod lists;
 mod tables;
 mod timing;
+mod typed;
 
 use lists::{List, Market, Trade};
 use timing::{measure, Span};
@@ -31,22 +34,54 @@ const SMALL_ENTRIES: usize = 40_000;
 const RESTARTS: usize = 40;
 
 fn main() {
-    let rounds = match std::env::args().nth(1) {
-        Some(rounds) => rounds.parse().expect("a number of rounds"),
-        None => 21,
+    let mut words: Vec<String> = std::env::args().skip(1).collect();
+    if words.is_empty() {
+        words.push("21".to_string());
+    }
+    let done = match words.split_first() {
+        Some((word, rest)) if word == "count" => count::run(&REAL, &SMALL, rest),
+        Some((rounds, [])) => rounds.parse().ok().map(all_tables),
+        _ => None,
     };
+    if done.is_none() {
+        eprintln!("bench [ROUNDS]");
+        eprintln!("bench count proved|fast [small] [administered] [report|store|load]");
+        std::process::exit(2);
+    }
+}
+
+fn all_tables(rounds: usize) {
     let rounds = std::cmp::max(rounds, 1);
-    println!(
-        "nanoseconds of processor time: median of {rounds} rounds (difference of least times)"
-    );
+    println!("nanoseconds of processor time: median of {rounds} rounds (least, or difference of least times)");
+    typed_calls(rounds);
     steady(rounds);
     history(rounds);
     restarts(rounds);
 }
 
+/// The typed calls of a book whose window is full.
+fn typed_calls(rounds: usize) {
+    let mut rows = Vec::new();
+    for (market, entries) in [(REAL, REAL_ENTRIES), (SMALL, SMALL_ENTRIES)] {
+        for trade in [Trade::Free, Trade::Administered] {
+            for window in [1, 288, 2_016] {
+                let market = Market { window, ..market };
+                let costs = typed::measure(&market, trade, entries, rounds);
+                rows.push((format!("{market}, {trade}"), costs));
+            }
+        }
+    }
+    for (place, call) in typed::CALLS.iter().enumerate() {
+        tables::head(&format!("typed {call}, window full"));
+        for (name, costs) in &rows {
+            tables::row(name, &costs[place]);
+        }
+    }
+}
+
 /// An entry's cost once the window is full.
 fn steady(rounds: usize) {
-    tables::head("an entry, window full");
+    tables::head("replay: an entry, window full");
     for (market, entries) in [(REAL, REAL_ENTRIES), (SMALL, SMALL_ENTRIES)] {
         for trade in [Trade::Free, Trade::Administered] {
             for window in [1, 288, 2_016] {
@@ -69,7 +104,7 @@ fn history(rounds: usize) {
     let real = (REAL, REAL_ENTRIES, 6);
     let small = (SMALL, SMALL_ENTRIES, 6);
     for (market, entries, spans) in [real, small] {
-        tables::head(&format!("an entry by its number, {market}"));
+        tables::head(&format!("replay: an entry by its number, {market}"));
         let list = List::of_entries(&market, Trade::Free, 0, spans * entries);
         let span = |number: usize| Span {
             from: 1 + number * entries,
@@ -86,7 +121,7 @@ fn history(rounds: usize) {
 
 /// A restart of a full real book; and one that the load refuses by 11 before it looks at a price, which leaves the store.
 fn restarts(rounds: usize) {
-    tables::head("a restart of a full book");
+    tables::head("replay: a restart of a full book");
     let full = usize::from(REAL.window);
     let list = List::of_restarts(&REAL, full, 2 * RESTARTS);
     let span = Span {

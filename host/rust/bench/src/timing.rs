@@ -96,7 +96,7 @@ pub fn measure(
 ) -> Vec<Costs> {
     let mut room = Room::new(market, list, other);
     compare(&mut room, list, other);
-    let players: [Replay; 2] = [wrapper::replay, fast::replay];
+    let players: [Replay; 2] = [guxhamole::replay, fast::replay];
     // times[player][span] has a round's two times at each place
     let mut times = vec![vec![Vec::new(); spans.len()]; 2];
     for round in 0..rounds {
@@ -136,7 +136,7 @@ fn compare(room: &mut Room, list: &List, other: bool) {
     let written = room.play(fast::replay, &list.calls);
     let expected = room.answers[..written].to_vec();
     room.answers.fill(1);
-    let written = room.play(wrapper::replay, &list.calls);
+    let written = room.play(guxhamole::replay, &list.calls);
     assert!(room.answers[..written] == expected, "the answers differ");
     let (mut rest, mut answered) = (&expected[..], 0);
     while !rest.is_empty() {

@@ -46,7 +46,7 @@ fn compiled(calls: &[u8], lent: &Lent) -> Compiled {
     let mut numbers = memory(lent.numbers, FILL_NUMBER);
     let mut factors = memory(lent.factors, FILL_NUMBER as u32);
     let mut table = memory(lent.table, FILL_NUMBER);
-    let written = wrapper::replay(
+    let written = guxhamole::replay(
         calls,
         &mut answers[..lent.answers],
         &mut ring[..lent.ring],

@@ -378,7 +378,7 @@ fn ten_million_entries() {
     let mut answers = vec![0; 14 + of_entries + 22 * 3 + 34 + 14 + 1];
     let (mut ring, mut other, mut image) = ([0], [0], [0; 152]);
     let (mut numbers, mut factors, mut table) = ([0; 4], [0], [0]);
-    let written = wrapper::replay(
+    let written = guxhamole::replay(
         &ten_million_calls(),
         &mut answers,
         &mut ring,

@@ -1,0 +1,415 @@
+"""The proved book of administered electricity prices, from Python: ctypes over libguxhamole.so, which ./build makes.
+
+    from guxhamole import Book, Settings
+    book = Book.open(Settings(regions=1, services=0, parents=[255] * 8, threshold=2_000_000))
+    count, table = book.enter(book.entries, 0, [8_500], [0], [0], [0], [0] * 96)
+    print(book.report(0, 0))        # Report(sum=8500, counted=1, administered=False, entries=1)
+    saved = book.store()            # bytes; Book.load(saved) goes on from here, after a restart too
+
+Money is in whole cents, the index in whole dollars. docs/REFUSALS.md has every refusal, host/c/guxhamole.h every
+function.
+
+Proved are each function's whole outcome and, over sequences of calls, that the answers are those of a ledger which
+keeps the whole history, where each call gets the book and ring that the call before left. A `Book` holds both and hands
+them to no one, so this holds by construction, over restarts (`store`, then `load`) too. This file itself is tested, not
+proved.
+
+A refused call raises `Refusal`, with number and place, and changes nothing. A number that its type does not hold (a
+price of 2**40) raises OverflowError before the call: it is never wrapped. A `Book` belongs to one thread at a time; the
+library has no state, so different books may be used at once.
+
+The library is the one that `use_library` names, or else the environment variable GUXHAMOLE_LIBRARY, or else
+target/host/libguxhamole.so at the repository's top; the first call loads it, and one of another ABI is an ImportError.
+"""
+
+import ctypes
+import operator
+import os
+from array import array
+from ctypes import POINTER, c_int32, c_int64, c_size_t, c_uint8, c_uint16, c_uint32, c_uint64
+from dataclasses import dataclass
+from pathlib import Path
+from typing import List, NamedTuple, Optional, Sequence
+
+ABI = 1
+NO_PARENT = 255
+LONGEST_TEXT = 21  # bytes: "-92233720368547758.08"
+LARGEST_RING = 8 * 11 * 2016
+HEAD = 148  # bytes of an image before its prices
+
+MEANINGS = {
+    10: "the book is closed, or a field of it is outside its limits",
+    11: "a slice's length",
+    12: "10,000,000 entries were taken",
+    13: "not the next entry's number",
+    14: "a day kind that is neither 0 nor 1",
+    15: "a mark that is neither 0 nor 1",
+    16: "a price out of its market's range",
+    17: "a factor outside 10,000..20,000",
+    18: "a threshold outside 1..100,000,000,000",
+    19: "a cap outside 1..10,000,000 or a floor outside -10,000,000..-1",
+    20: "a setting outside its limits",
+    21: "a region or market that the book does not have",
+    22: "the ring is not this book's, or was changed by others",
+    23: "a buffer shorter than the image",
+    24: "an image's length",
+    25: "an image's kind",
+    26: "a field of an image outside its limits",
+    27: "an image's length is not that of its prices",
+    30: "a quarter or an amount outside its limits",
+    31: "a schedule's half-hours, or how many prices or day kinds are lent",
+    32: "a schedule's day kind is neither 0 nor 1, or one kind is missing",
+    33: "a buffer too short for the text",
+}
+
+# "15 to 17 give the first place in the lent slice"; beside any other refusal the place is 0 and says nothing.
+PLACED = (15, 16, 17)
+
+
+class Refusal(Exception):
+    """A refused call: `number`, `place` (None where none is named) and `text`, what the number means."""
+
+    def __init__(self, number: int, place: Optional[int] = None):
+        super().__init__(number, place)
+        self.number = number
+        self.place = place
+        self.text = MEANINGS.get(number, "a refusal that this module does not know")
+
+    def __str__(self) -> str:
+        where = "" if self.place is None else f" at {self.place}"
+        return f"refused {self.number}{where}: {self.text}"
+
+
+@dataclass(frozen=True)
+class Settings:
+    """What a book is opened with; as it stands the real market, its first entry at midnight."""
+
+    regions: int = 5
+    services: int = 10
+    window: int = 2016
+    halves: int = 48
+    first: int = 0
+    parents: Sequence[int] = (NO_PARENT, 0, 0, 2, 2, NO_PARENT, NO_PARENT, NO_PARENT)
+    threshold: int = 182_360_000
+    cap: int = 60_000
+    floor: int = -60_000
+
+
+class Report(NamedTuple):
+    """A market's sum, the prices counted in it, whether it is administered at the next entry, and the entries taken."""
+
+    sum: int
+    counted: int
+    administered: bool
+    entries: int
+
+
+class Entered(NamedTuple):
+    """How many published prices differ from the effective ones, and the published prices, region by region."""
+
+    count: int
+    table: List[int]
+
+
+class Schedule(NamedTuple):
+    """Two rows of 48 prices, a row a kind of day; places from the day's half-hours up are zero."""
+
+    weekday: List[int]
+    weekend: List[int]
+
+
+class _Settings(ctypes.Structure):
+    _fields_ = [
+        ("regions", c_uint8), ("services", c_uint8), ("window", c_uint16), ("halves", c_uint8), ("first", c_uint16),
+        ("parents", c_uint8 * 8), ("threshold", c_int64), ("cap", c_int32), ("floor", c_int32),
+    ]
+
+
+class _Book(ctypes.Structure):
+    _fields_ = [
+        ("regions", c_uint8), ("services", c_uint8), ("window", c_uint16), ("halves", c_uint8),
+        ("parents", c_uint8 * 8), ("threshold", c_int64), ("cap", c_int32), ("floor", c_int32),
+        ("entries", c_uint32), ("position", c_uint16), ("counts", c_uint16 * 8), ("nexts", c_uint16 * 8),
+        ("sums", c_int64 * 88), ("marks", c_uint8 * 88),
+    ]
+
+
+class _Kept(ctypes.Structure):
+    _fields_ = [("book", _Book), ("number", c_uint32), ("place", c_uint64)]
+
+
+class _Entered(ctypes.Structure):
+    _fields_ = [("book", _Book), ("number", c_uint32), ("place", c_uint64), ("count", c_uint32)]
+
+
+class _Reading(ctypes.Structure):
+    _fields_ = [
+        ("number", c_uint32), ("counted", c_uint32), ("mark", c_uint32), ("entries", c_uint32), ("sum", c_int64),
+    ]
+
+
+class _Stored(ctypes.Structure):
+    _fields_ = [("number", c_uint32), ("length", c_uint64)]
+
+
+class _Rows(ctypes.Structure):
+    _fields_ = [("number", c_uint32), ("place", c_uint64), ("weekday", c_int32 * 48), ("weekend", c_int32 * 48)]
+
+
+_SIZES = {_Settings: 32, _Book: 864, _Kept: 880, _Entered: 888, _Reading: 24, _Stored: 16, _Rows: 400}
+for _layout, _size in _SIZES.items():
+    if ctypes.sizeof(_layout) != _size:
+        raise ImportError(f"{_layout.__name__} has {ctypes.sizeof(_layout)} bytes here, {_size} in the archive")
+
+
+def _slice(number):
+    """The two arguments that a slice is: where it stands and its length in elements."""
+    return [POINTER(number), c_size_t]
+
+
+_BYTES, _SIGNED, _UNSIGNED = _slice(c_uint8), _slice(c_int32), _slice(c_uint32)
+
+# What each function answers and takes, as host/c/guxhamole.h has it.
+_FUNCTIONS = {
+    "open": (_Kept, [_Settings, *_SIGNED]),
+    "set_threshold": (_Kept, [_Book, c_int64]),
+    "set_limits": (_Kept, [_Book, c_int32, c_int32]),
+    "report": (_Reading, [_Book, c_uint32, c_uint32]),
+    "enter": (_Entered, [_Book, *_SIGNED, c_uint32, c_uint8, *_SIGNED, *_BYTES, *_SIGNED, *_UNSIGNED, *_SIGNED,
+                         *_SIGNED]),
+    "store": (_Stored, [_Book, *_SIGNED, *_BYTES]),
+    "load": (_Kept, [*_BYTES, *_SIGNED]),
+    "schedule": (_Rows, [c_uint8, c_int32, c_int32, c_uint8, *_SIGNED, *_BYTES]),
+    "amount_text": (c_size_t, [c_int64, *_BYTES]),
+    "image_check": (c_uint32, _BYTES),
+    "index": (c_int64, [c_uint64, *[c_uint32] * 8, c_uint64]),
+    "replay": (c_size_t, [*_BYTES, *_BYTES, *_SIGNED, *_SIGNED, *_BYTES, *_SIGNED, *_UNSIGNED, *_SIGNED]),
+    "abi": (c_uint32, []),
+}
+
+_library = None
+
+
+def use_library(path) -> None:
+    """Takes the functions from this shared object from here on."""
+    global _library
+    library = ctypes.CDLL(str(path))
+    for name, (answer, arguments) in _FUNCTIONS.items():
+        function = getattr(library, f"guxhamole_{name}", None)
+        if function is None:
+            raise ImportError(f"{path} has no guxhamole_{name}")
+        function.restype, function.argtypes = answer, arguments
+    if library.guxhamole_abi() != ABI:
+        raise ImportError(f"{path} is of ABI {library.guxhamole_abi()}, this module of {ABI}")
+    _library = library
+
+
+def _face():
+    """The library's functions."""
+    if _library is None:
+        top = Path(__file__).resolve().parents[2]
+        use_library(os.environ.get("GUXHAMOLE_LIBRARY") or top / "target" / "host" / "libguxhamole.so")
+    return _library
+
+
+def _fits(value: int, kind) -> int:
+    """The number, where its type holds it; ctypes alone would wrap it."""
+    number = operator.index(value)
+    if kind(number).value != number:
+        raise OverflowError(f"{number} does not fit {kind.__name__}")
+    return number
+
+
+# An `array` tests every number that goes into it, as ctypes does not.
+_CODES = {c_int32: "i", c_uint8: "B", c_uint32: "I"}
+
+
+def _numbers(values: Sequence[int], kind):
+    """These numbers as the library takes them, where their type holds every one."""
+    numbers = array(_CODES[kind], list(values))
+    return (kind * len(numbers)).from_buffer_copy(numbers)
+
+
+def _lent(*slices):
+    """The arguments that these slices are."""
+    return [argument for numbers in slices for argument in (numbers, len(numbers))]
+
+
+def _accepted(answer):
+    """The answer, where the call was accepted."""
+    if answer.number != 0:
+        raise Refusal(answer.number, answer.place if answer.number in PLACED else None)
+    return answer
+
+
+def _settings(settings: Settings) -> _Settings:
+    record = _Settings()
+    for name, kind in _Settings._fields_:
+        if name != "parents":
+            setattr(record, name, _fits(getattr(settings, name), kind))
+    if len(settings.parents) != 8:
+        raise ValueError(f"{len(settings.parents)} parents: there are eight, {NO_PARENT} where a region has none")
+    record.parents = _numbers(settings.parents, c_uint8)
+    return record
+
+
+def _ring(regions: int, services: int, window: int):
+    """A ring of exactly R x M x W places, or of one where no book has so many: that is refused before the ring is."""
+    places = regions * (services + 1) * window
+    return (c_int32 * (places if places <= LARGEST_RING else 1))()
+
+
+class Book:
+    """A book and its ring: made by `Book.open` and `Book.load`, changed by its calls alone."""
+
+    def __init__(self, book: _Book, ring):
+        """For `open` and `load`: the record that the library handed back and the ring that it was lent."""
+        self._book = book
+        self._ring = ring
+
+    @classmethod
+    def open(cls, settings: Settings) -> "Book":
+        """A new book. Refusals: 20 18 19."""
+        record = _settings(settings)
+        ring = _ring(record.regions, record.services, record.window)
+        return cls(_accepted(_face().guxhamole_open(record, *_lent(ring))).book, ring)
+
+    @classmethod
+    def load(cls, image: bytes) -> "Book":
+        """The book of an image, with a ring of its own. Refusals: 24 25 26 27 16."""
+        lent = _lent(_numbers(image, c_uint8))
+        number = _face().guxhamole_image_check(*lent)
+        if number not in (0, 16):
+            raise Refusal(number)
+        # The check has passed the head, so it says how long the ring is; the place of 16 is the load's to say.
+        ring = _ring(image[6], image[7], int.from_bytes(image[8:10], "little"))
+        return cls(_accepted(_face().guxhamole_load(*lent, *_lent(ring))).book, ring)
+
+    def enter(self, number: int, day_kind: int, prices: Sequence[int], marks: Sequence[int], flows: Sequence[int],
+              factors: Sequence[int], schedule: Sequence[int]) -> Entered:
+        """One interval; `number` is that of the entries taken before it. Refusals: 11 to 17."""
+        head = (_fits(number, c_uint32), _fits(day_kind, c_uint8))
+        table = (c_int32 * (self.regions * (self.services + 1)))()
+        lent = _lent(_numbers(prices, c_int32), _numbers(marks, c_uint8), _numbers(flows, c_int32),
+                     _numbers(factors, c_uint32), _numbers(schedule, c_int32), table)
+        answer = _accepted(_face().guxhamole_enter(self._book, *_lent(self._ring), *head, *lent))
+        self._book = answer.book
+        return Entered(answer.count, list(table))
+
+    def set_threshold(self, threshold: int) -> None:
+        """Acts from the next entry. Refusal: 18."""
+        self._book = _accepted(_face().guxhamole_set_threshold(self._book, _fits(threshold, c_int64))).book
+
+    def set_limits(self, cap: int, floor: int) -> None:
+        """Act from the next entry. Refusal: 19."""
+        limits = (_fits(cap, c_int32), _fits(floor, c_int32))
+        self._book = _accepted(_face().guxhamole_set_limits(self._book, *limits)).book
+
+    def report(self, region: int, market: int) -> Report:
+        """How a market stands; market 0 is energy. Refusal: 21."""
+        answer = _accepted(_face().guxhamole_report(self._book, _fits(region, c_uint32), _fits(market, c_uint32)))
+        return Report(answer.sum, answer.counted, answer.mark == 1, answer.entries)
+
+    def store(self) -> bytes:
+        """The book's image, of which `load` makes the same book."""
+        image = (c_uint8 * (HEAD + 4 * len(self._ring)))()
+        answer = _accepted(_face().guxhamole_store(self._book, *_lent(self._ring, image)))
+        return bytes(image)[:answer.length]
+
+    def __reduce__(self):
+        """A copy, or a book that was pickled, has a ring of its own: two books on one ring would spoil each other."""
+        return Book.load, (self.store(),)
+
+    @property
+    def regions(self) -> int:
+        return self._book.regions
+
+    @property
+    def services(self) -> int:
+        return self._book.services
+
+    @property
+    def window(self) -> int:
+        return self._book.window
+
+    @property
+    def halves(self) -> int:
+        return self._book.halves
+
+    @property
+    def parents(self) -> List[int]:
+        return list(self._book.parents)
+
+    @property
+    def threshold(self) -> int:
+        return self._book.threshold
+
+    @property
+    def cap(self) -> int:
+        return self._book.cap
+
+    @property
+    def floor(self) -> int:
+        return self._book.floor
+
+    @property
+    def entries(self) -> int:
+        """The entries taken, and so the next entry's number."""
+        return self._book.entries
+
+    @property
+    def position(self) -> int:
+        """The next entry's position in its day."""
+        return self._book.position
+
+
+def check(image: bytes) -> None:
+    """Whether `Book.load` takes an image. Refusals, none with a place: 24 25 26 27 16."""
+    number = _face().guxhamole_image_check(*_lent(_numbers(image, c_uint8)))
+    if number != 0:
+        raise Refusal(number)
+
+
+def schedule(halves: int, cap: int, floor: int, energy: bool, prices: Sequence[int],
+             day_kinds: Sequence[int]) -> Schedule:
+    """A market's suspension schedule, of 28 days' prices, day by day, and their kinds. Refusals: 31 32 19 16."""
+    head = (_fits(halves, c_uint8), _fits(cap, c_int32), _fits(floor, c_int32), 1 if energy else 0)
+    lent = _lent(_numbers(prices, c_int32), _numbers(day_kinds, c_uint8))
+    answer = _accepted(_face().guxhamole_schedule(*head, *lent))
+    return Schedule(list(answer.weekday), list(answer.weekend))
+
+
+def index(amount: int, quarters: Sequence[int], base: Sequence[int], last: int) -> int:
+    """An amount indexed by the four quarters of a year over those of the base year, in tenths, and never below last
+    year's. Refusal: 30."""
+    if len(quarters) != 4 or len(base) != 4:
+        raise ValueError("a year has four quarters")
+    years = [_fits(quarter, c_uint32) for quarter in (*quarters, *base)]
+    dollars = _face().guxhamole_index(_fits(amount, c_uint64), *years, _fits(last, c_uint64))
+    if dollars < 0:
+        raise Refusal(-dollars)
+    return dollars
+
+
+def amount_text(cents: int) -> str:
+    """Cents as dollars with two digits after the point."""
+    buffer = (c_uint8 * LONGEST_TEXT)()
+    written = _face().guxhamole_amount_text(_fits(cents, c_int64), *_lent(buffer))
+    return bytes(buffer)[:written].decode("ascii")
+
+
+def replay(calls: bytes) -> bytes:
+    """The answers to a list of calls (docs/RECORDS.md), with room for every list: what ends a replay early, so that
+    there are fewer answers than calls, is a record that is damaged or lends a ring longer than the book's."""
+    words = len(calls) // 4 + 1  # an entry's contents stand in its record
+    answers = (c_uint8 * (3 * len(calls)))()  # the most are 34 bytes for a report's 14
+    rings = [(c_int32 * LARGEST_RING)(), (c_int32 * LARGEST_RING)()]
+    image = (c_uint8 * (HEAD + 4 * LARGEST_RING))()
+    contents = [(c_int32 * words)(), (c_uint32 * words)(), (c_int32 * words)()]
+    written = _face().guxhamole_replay(*_lent(_numbers(calls, c_uint8), answers, *rings, image, *contents))
+    return bytes(answers)[:written]
+
+
+def abi() -> int:
+    """The number of the layouts, the library's and this module's."""
+    return _face().guxhamole_abi()

@@ -1,0 +1,271 @@
+"""Random calls, from a fixed seed, on small books: every answer of the library held to the independent ledger's."""
+
+import random
+import unittest
+from collections import Counter
+
+import arithmetic
+import guxhamole
+from arithmetic import Refused
+from guxhamole import Book, Refusal, Settings
+from image import image_of, refuse_image
+from ledger import NONE, Entry, Ledger
+
+SEED = 12
+CALLS = 20_000
+WINDOWS = (1, 2, 3, 4)
+# Every refusal that a `Book` can meet: it has the ring's and the buffers' lengths right (23, 33), is never closed or
+# damaged (10), and its ring is its own (22).
+MET = (11, 12, 13, 14, 15, 16, 17, 18, 19, 20, 21, 24, 25, 26, 27, 30, 31, 32)
+
+
+def outcome(call, *arguments):
+    """What a call answers: "accepted" and the values, or "refused", number and place."""
+    try:
+        return "accepted", call(*arguments)
+    except (Refusal, Refused) as refused:
+        return "refused", refused.number, refused.place
+
+
+def random_settings(dice):
+    regions, services = dice.choice((1, 1, 2, 3, 4, 8)), dice.choice((0, 0, 1, 2))
+    halves = dice.choice((1, 1, 2))
+    parents = [NONE] * 8
+    for region in range(1, regions):
+        parents[region] = dice.choice((NONE, *range(region), region - 1))
+    return Settings(regions, services, dice.choice(WINDOWS), halves, dice.randrange(6 * halves), parents,
+                    random_threshold(dice), *random_limits(dice))
+
+
+def random_threshold(dice):
+    return 10_000 * dice.randint(1, 25)
+
+
+def random_limits(dice):
+    return dice.choice((1, 30_000, 60_000, 60_001)), dice.choice((-1, -30_000, -60_000, -60_001))
+
+
+def random_price(dice, energy):
+    """One in two is a multiple of 10,000, as thresholds are, so that sums are often exactly at the threshold."""
+    price = dice.randint(-90_000, 120_000) if energy else dice.randint(0, 90_000)
+    return dice.choice((price, price // 10_000 * 10_000))
+
+
+def bad_settings(dice):
+    """Settings of which one is outside its limits, or at them."""
+    good = vars(random_settings(dice))
+    name, values = dice.choice((
+        ("regions", (0, 9, 255)), ("services", (11, 255)), ("window", (0, 2017, 65_535)), ("halves", (0, 49)),
+        ("first", (6 * good["halves"], 65_535)), ("parents", ([0] + [NONE] * 7, [NONE] * 7 + [0], [NONE] + [1] * 7)),
+        ("threshold", (0, -1, 100_000_000_000, 100_000_000_001)), ("cap", (0, 10_000_000, 10_000_001)),
+        ("floor", (0, -10_000_000, -10_000_001)),
+    ))
+    return Settings(**{**good, name: dice.choice(values)})
+
+
+def random_entry(dice, settings, number):
+    """An entry's number, day kind, prices, marks, flows, factors and schedule, none of which is refused."""
+    markets = settings.services + 1
+    places, regions = settings.regions * markets, range(settings.regions)
+    return [
+        number,
+        dice.randrange(2),
+        [random_price(dice, place % markets == 0) for place in range(places)],
+        [int(dice.random() < 0.15) for _ in regions],
+        [dice.choice((-2**31, -1, 0, 1, 2**31 - 1)) for _ in regions],
+        [dice.choice((10_000, 10_001, 10_800, 15_000, 20_000)) for _ in regions],
+        [random_price(dice, True) for _ in range(places * 2 * settings.halves)],
+    ]
+
+
+def damage(dice, entry):
+    """One thing about an entry is wrong, or would be if the region were not marked or had a parent."""
+    part = dice.randrange(8)
+    if part == 0:
+        entry[0] += dice.choice((-1, 1, 1000)) if entry[0] else 1
+    elif part == 1:
+        entry[1] = dice.choice((2, 255))
+    elif part == 7:
+        lent = dice.choice(entry[2:])
+        lent.pop() if dice.random() < 0.5 else lent.append(0)
+    elif entry[part]:
+        bad = (-10_000_001, -1, 10_000_001, 2**31 - 1), (2, 255), (0,), (9_999, 20_001, 0), (2**31 - 1, -2**31)
+        entry[part][dice.randrange(len(entry[part]))] = dice.choice(bad[part - 2])
+
+
+def damaged_image(dice, image):
+    """An image with a byte changed, cut, or longer; or with a price out of range."""
+    way = dice.randrange(6)
+    if way == 0:
+        return image[:dice.randrange(len(image))]
+    if way == 1:
+        return image + b"\0" * dice.randint(1, 4)
+    damaged = bytearray(image)
+    if way == 2:
+        damaged += b"\0\0\0\0"
+        damaged[0:4] = len(damaged).to_bytes(4, "little")
+    elif way == 3 and len(image) > 148:
+        place = 148 + 4 * dice.randrange((len(image) - 148) // 4)
+        damaged[place:place + 4] = dice.choice((10_000_001, -1, -10_000_001)).to_bytes(4, "little", signed=True)
+    else:
+        count, period, field = dice.randrange(44, 60), dice.randrange(60, 148), dice.randrange(5, 60)
+        place = dice.choice((4, 11, 20, 26, 27, count, period, *[field] * 5))
+        damaged[place] ^= dice.choice((1, 1 << dice.randrange(8)))
+    return bytes(damaged)
+
+
+def random_making(dice):
+    """A schedule maker's arguments, one in two of them with something wrong."""
+    halves = dice.choice((1, 2))
+    prices = [dice.randint(-40, 40) for _ in range(168 * halves)]
+    day_kinds = [dice.randrange(2) for _ in range(28)]
+    making = [halves, *random_limits(dice), dice.random() < 0.5, prices, day_kinds]
+    if not making[3]:
+        making[4] = [abs(price) for price in prices]
+    way = dice.randrange(12)
+    if way < 2:
+        making[0] = dice.choice((0, 3, 49))
+    elif way < 4:
+        making[5] = dice.choice(([0] * 28, [1] * 28, [2] + day_kinds[1:], day_kinds[1:]))
+    elif way == 4:
+        making[1:3] = dice.choice(((0, -1), (1, 0)))
+    elif way == 5:
+        making[4][dice.randrange(168 * halves)] = dice.choice((10_000_001, -10_000_001, -1))
+    return making
+
+
+def random_indexing(dice):
+    quarters = [[dice.randint(1, 100_000) for _ in range(4)] for _ in range(2)]
+    if dice.random() < 0.4:
+        dice.choice(quarters)[dice.randrange(4)] = dice.choice((0, 100_001))
+    amount = dice.choice((1, 12_500, 1_125_000, 100_000_000, 0, 100_000_001))
+    return amount, *quarters, dice.choice((0, 15_100, 10_000_000_000_000, 10_000_000_000_001))
+
+
+class Calls:
+    """Lists of calls, made on a book and on a ledger; what was met is counted."""
+
+    def __init__(self, test):
+        self.test = test
+        self.dice = random.Random(SEED)
+        self.met = Counter()
+        self.restarts = set()
+        self.calls = 0
+
+    def compare(self, of_book, of_ledger, *about):
+        self.calls += 1
+        self.test.assertEqual(of_book, of_ledger, about)
+        self.met[of_book[1] if of_book[0] == "refused" else "accepted"] += 1
+
+    def open(self):
+        """A new list's book and ledger; one in eight goes on from a book that has taken nearly all entries."""
+        self.settings = random_settings(self.dice)
+        marked = 10_000_000 - self.dice.randint(0, 9) if self.dice.random() < 0.125 else 0
+        self.ledger = Ledger(self.settings, marked)
+        self.book = Book.load(image_of(self.ledger)) if marked else Book.open(self.settings)
+
+    def on_both(self, name, *arguments):
+        """A call of the book and of the ledger; refused, it leaves book and ring as they were."""
+        before = bytes(self.book._book), bytes(self.book._ring)
+        answer = outcome(getattr(self.book, name), *arguments)
+        self.compare(answer, outcome(getattr(self.ledger, name), *arguments), name, self.settings, arguments)
+        if answer[0] == "refused":
+            self.test.assertEqual((bytes(self.book._book), bytes(self.book._ring)), before)
+        return answer
+
+    def enter(self):
+        number = self.ledger.marked + self.ledger.taken
+        entry = random_entry(self.dice, self.settings, number)
+        while self.dice.random() < 0.3:
+            damage(self.dice, entry)
+        answer = self.on_both("enter", *entry)
+        if answer[0] == "accepted":
+            self.look_at(Entry(*entry), answer[1].table)
+
+    def look_at(self, entry, table):
+        """Counts what an accepted entry showed of energy: marks, limits of other regions, periods."""
+        last = self.ledger.taken - 1
+        for region in range(self.settings.regions):
+            before, after = (self.ledger.administered(region, 0, t) for t in (last, last + 1))
+            place = region * self.ledger.markets
+            self.met["marked"] += entry.marks[region]
+            self.met["bound"] += not before and not entry.marks[region] and table[place] != entry.prices[place]
+            self.met["begun"] += after and not before
+            self.met["ended"] += before and not after
+
+    def set_threshold(self):
+        bounds = (0, 1, 100_000_000_000, 100_000_000_001, -2**63)
+        self.on_both("set_threshold", self.dice.choice((*[random_threshold(self.dice)] * 7, *bounds)))
+
+    def set_limits(self):
+        bounds = ((0, -1), (1, 0), (10_000_000, -10_000_000), (10_000_001, -1), (1, -10_000_001))
+        self.on_both("set_limits", *self.dice.choice((*[random_limits(self.dice)] * 7, *bounds)))
+
+    def report(self):
+        region, market = self.dice.randint(0, self.settings.regions), self.dice.randint(0, self.ledger.markets)
+        self.on_both("report", region, market)
+
+    def restart(self):
+        """ "P accepts both calls and does nothing." The image is that of the ledger's book. """
+        self.restarts.add((self.book.window, self.book._book.counts[0], self.book._book.nexts[0]))
+        self.restarts.add((self.book.halves, "position", self.book.position))
+        image = self.book.store()
+        self.compare(("accepted", image), ("accepted", image_of(self.ledger)), "store", self.settings)
+        self.book = Book.load(image)
+        self.compare(("accepted", self.book.store()), ("accepted", image), "load", self.settings)
+
+    def bad_open(self):
+        settings = bad_settings(self.dice)
+        of_book = outcome(lambda: Book.open(settings).store())
+        self.compare(of_book, outcome(lambda: image_of(Ledger(settings))), "open", settings)
+
+    def bad_image(self):
+        image = damaged_image(self.dice, self.book.store())
+        verdict = outcome(refuse_image, image)
+        loaded = outcome(lambda: Book.load(image).store())
+        self.compare(loaded, verdict if verdict[0] == "refused" else ("accepted", image), "load", image)
+        self.compare(outcome(guxhamole.check, image), (*verdict[:2], None)[:len(verdict)], "check", image)
+
+    def arithmetic(self):
+        making, indexing = random_making(self.dice), random_indexing(self.dice)
+        cents = self.dice.choice((self.dice.randint(-2**63, 2**63 - 1), self.dice.randint(-10_000, 10_000)))
+        for name, arguments in (("schedule", making), ("index", indexing), ("amount_text", (cents,))):
+            of_library = outcome(getattr(guxhamole, name), *arguments)
+            self.compare(of_library, outcome(getattr(arithmetic, name), *arguments), name, arguments)
+
+    def end(self):
+        """ "After L, the same for a report of each region and market." """
+        for region in range(self.settings.regions):
+            for market in range(self.ledger.markets):
+                self.on_both("report", region, market)
+        setting = self.ledger.settings[-1]
+        self.test.assertEqual((self.book.threshold, self.book.cap, self.book.floor), setting[1:])
+
+    def play(self):
+        """A list: an opening, calls, and a report of each market."""
+        self.open()
+        kinds = [self.enter] * 14 + [self.restart] * 3 + [self.report] * 2
+        kinds += [self.set_threshold, self.set_limits, self.bad_open, self.bad_image, self.bad_image, self.arithmetic]
+        for _ in range(self.dice.randint(10, 70)):
+            self.dice.choice(kinds)()
+        self.end()
+
+
+class RandomCalls(unittest.TestCase):
+    def test_against_the_ledger(self):
+        calls = Calls(self)
+        while calls.calls < CALLS:
+            calls.play()
+        for what in ("accepted", "marked", "bound", "begun", "ended", *MET):
+            self.assertGreaterEqual(calls.met[what], 10, what)
+        self.assertEqual({what for what in calls.met if isinstance(what, int)}, set(MET))
+        phases = {(window, count, count) for window in WINDOWS for count in range(window)}
+        phases |= {(window, window, place) for window in WINDOWS for place in range(window)}
+        phases |= {(halves, "position", position) for halves in (1, 2) for position in range(6 * halves)}
+        self.assertEqual(phases - calls.restarts, set())
+        met = ", ".join(f"{what} {calls.met[what]}" for what in sorted(calls.met, key=str))
+        print(f"random calls: {calls.calls}, met: {met}")
+
+
+if __name__ == "__main__":
+    unittest.main()

@@ -1,0 +1,77 @@
+//! Calls to be counted by instructions rather than timed: `bench count proved|fast` and, where it is not the real market's free
+//! entry, the words `small`, `administered`, `report`, `store` or `load`. Under callgrind's `--toggle-collect='*count::counted*'` the
+//! calls themselves are counted, on a book whose window is full.
+
+use crate::lists::{Market, Trade, Trading};
+use crate::typed::{Host, Typed, CALLS};
+
+use std::hint::black_box;
+
+/// How many calls are counted.
+const TIMES: usize = 1_000;
+
+/// What is counted.
+struct Counting {
+    market: Market,
+    trade: Trade,
+    call: &'static str,
+}
+
+/// Makes the calls that the words after `count` say; nothing where they are no such words.
+pub fn run(real: &Market, small: &Market, words: &[String]) -> Option<()> {
+    let (player, words) = words.split_first()?;
+    let mut counting = Counting {
+        market: *real,
+        trade: Trade::Free,
+        call: CALLS[0],
+    };
+    for word in words {
+        match word.as_str() {
+            "small" => counting.market = *small,
+            "administered" => counting.trade = Trade::Administered,
+            call => counting.call = CALLS.iter().find(|&&known| known == call)?,
+        }
+    }
+    match player.as_str() {
+        "proved" => counting.play::<guxhamole::Book>(),
+        "fast" => counting.play::<fast::Book>(),
+        _ => return None,
+    }
+    let Counting {
+        market,
+        trade,
+        call,
+    } = counting;
+    println!("{player}, {market}, {trade}: {call}, {TIMES} times");
+    Some(())
+}
+
+impl Counting {
+    fn play<B: Typed>(&self) {
+        let full = usize::from(self.market.window);
+        let trading = Trading::new(&self.market, self.trade, full, full + TIMES);
+        let mut host: Host<B> = Host::new(&self.market, &trading);
+        host.enter(&trading, 0..full);
+        let image = host.store();
+        counted(&mut host, &trading, self.call, image);
+    }
+}
+
+#[inline(never)]
+fn counted<B: Typed>(host: &mut Host<B>, trading: &Trading, call: &str, image: usize) {
+    let full = usize::from(trading.settings.window);
+    match call {
+        "report" => repeated(|| host.report(0)),
+        "store" => repeated(|| host.store()),
+        "load" => repeated(|| host.load(image)),
+        _ => {
+            black_box(host.enter(trading, full..full + TIMES));
+        }
+    }
+}
+
+fn repeated<A>(mut call: impl FnMut() -> A) {
+    for _ in 0..TIMES {
+        black_box(call());
+    }
+}

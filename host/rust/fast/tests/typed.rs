@@ -1,0 +1,152 @@
+//! The fast book's typed calls against the ledger of `independent`, on lists of calls from a seed: every answer and table, and after
+//! a refusal the book and its ring as they were. A restart is a store and a load into another ring.
+
+use fast::{Book, Refusal};
+use generator::{calls, Random};
+use independent::{Answer, Call, Ledger, Opening, Report, Values};
+use std::collections::BTreeMap;
+
+/// A book and its ring, as a host keeps them.
+#[derive(Clone, Debug, PartialEq, Eq)]
+struct Host {
+    book: Book,
+    ring: Vec<i32>,
+}
+
+/// The opening with the typed book's numbers.
+fn opening_of(opening: &Opening) -> fast::Opening {
+    fast::Opening {
+        regions: opening.regions as u8,
+        services: opening.services as u8,
+        window: opening.window as u16,
+        halves: opening.halves as u8,
+        first: opening.first as u16,
+        parents: opening.parents,
+        threshold: opening.threshold,
+        cap: opening.cap,
+        floor: opening.floor,
+    }
+}
+
+fn answer(refused: Option<Refusal>, values: Values) -> Answer {
+    Answer {
+        number: refused.map_or(0, |refusal| refusal.number),
+        place: refused.map_or(0, |refusal| refusal.place),
+        values,
+    }
+}
+
+impl Host {
+    fn open(opening: &Opening) -> Host {
+        let mut ring = vec![77; calls::ring_length(opening)];
+        let book = Book::open(&opening_of(opening), &mut ring).expect("a valid opening");
+        assert!(ring.iter().all(|&price| price == 0));
+        Host { book, ring }
+    }
+
+    fn call(&mut self, call: &Call) -> Answer {
+        match call {
+            Call::Entry(entry, ring, table) => self.enter(entry, *ring, table),
+            Call::Threshold(threshold) => {
+                let set = self.book.set_threshold(*threshold);
+                answer(set.err(), Values::Nothing)
+            }
+            Call::Limits(cap, floor) => {
+                let set = self.book.set_limits(*cap, *floor);
+                answer(set.err(), Values::Nothing)
+            }
+            Call::Report(region, market) => self.report(*region, *market),
+            Call::Restart(image, ring) => {
+                let restarted = self.restart(*image, *ring);
+                answer(restarted.err(), Values::Nothing)
+            }
+        }
+    }
+
+    /// A ring of another length than the book's is another ring.
+    fn enter(&mut self, entry: &independent::ledger::Entry, ring: usize, table: &[i32]) -> Answer {
+        let lent = fast::Entry {
+            number: entry.number,
+            kind: entry.kind,
+            prices: &entry.prices,
+            marks: &entry.marks,
+            flows: &entry.flows,
+            factors: &entry.factors,
+            schedule: &entry.schedule,
+        };
+        let (mut other, mut table) = (vec![78; ring], table.to_vec());
+        let own = if ring == self.ring.len() {
+            &mut self.ring
+        } else {
+            &mut other
+        };
+        let count = self.book.enter(own, &lent, &mut table);
+        assert!(other.iter().all(|&price| price == 78));
+        answer(count.err(), Values::Entry(count.unwrap_or(0), table))
+    }
+
+    fn report(&self, region: u32, market: u32) -> Answer {
+        let report = self.book.report(region, market);
+        let numbers = report.unwrap_or_default();
+        let values = Report {
+            sum: numbers.sum,
+            counted: numbers.counted,
+            mark: numbers.mark,
+            entries: numbers.entries,
+        };
+        answer(report.err(), Values::Report(values))
+    }
+
+    fn restart(&mut self, image: usize, ring: usize) -> Result<(), Refusal> {
+        let (mut image, mut other) = (vec![79; image], vec![80; ring]);
+        let length = self.book.store(&self.ring, &mut image)?;
+        assert!(image[length..].iter().all(|&byte| byte == 79));
+        self.book = Book::load(&image[..length], &mut other)?;
+        self.ring = other;
+        Ok(())
+    }
+}
+
+/// The call's kind, to count what was met.
+fn kind(call: &Call) -> &'static str {
+    match call {
+        Call::Entry(..) => "entry",
+        Call::Threshold(..) => "threshold",
+        Call::Limits(..) => "limits",
+        Call::Report(..) => "report",
+        Call::Restart(..) => "restart",
+    }
+}
+
+#[test]
+fn lists() {
+    let mut met: BTreeMap<(&str, u32), usize> = BTreeMap::new();
+    for seed in 0..900 {
+        let mut random = Random::new(0x3000_0000 + seed);
+        let opening = calls::opening(&mut random);
+        let mut host = Host::open(&opening);
+        let ring = calls::ring_length(&opening);
+        let mut ledger = Ledger::open(&opening, ring).expect("a valid opening");
+        for _ in 0..40 {
+            let call = calls::call(&mut random, &ledger);
+            let before = host.clone();
+            let found = host.call(&call);
+            assert_eq!(found, ledger.call(&call), "seed {seed}: {call:?}");
+            assert!(found.number == 0 || host == before, "seed {seed}: {call:?}");
+            *met.entry((kind(&call), found.number)).or_default() += 1;
+        }
+    }
+    let expected: [(&str, &[u32]); 5] = [
+        ("entry", &[0, 11, 13, 14, 15, 16, 17]),
+        ("threshold", &[0, 18]),
+        ("limits", &[0, 19]),
+        ("report", &[0, 21]),
+        ("restart", &[0, 11, 23]),
+    ];
+    for (kind, numbers) in expected {
+        for &number in numbers {
+            let times = met.get(&(kind, number)).copied().unwrap_or(0);
+            assert!(times >= 100, "{kind}, {number}: met {times} times");
+        }
+    }
+}

@@ -1,0 +1,369 @@
+//! The C face one to one: its structs, and each function over slices. A host needs [`crate::Book`] and the functions beside it; this is
+//! for tests, which set a book's fields one by one and look at the zeros of a refused answer. The one place with `unsafe`.
+
+use crate::BOOK_LENGTH;
+use core::mem::{offset_of, size_of};
+
+/// What a book is opened with.
+#[repr(C)]
+#[derive(Clone, Copy, Debug, PartialEq, Eq)]
+#[allow(missing_docs)] // Document 01's words; those of `crate::Settings` and `crate::Book` say more.
+pub struct Settings {
+    pub regions: u8,
+    pub services: u8,
+    pub window: u16,
+    pub halves: u8,
+    pub first: u16,
+    pub parents: [u8; 8],
+    pub threshold: i64,
+    pub cap: i32,
+    pub floor: i32,
+}
+
+/// A book by value, of any contents. The sum and the period mark of a market stand at 11 × region + market.
+#[repr(C)]
+#[derive(Clone, Copy, Debug, PartialEq, Eq)]
+#[allow(missing_docs)]
+pub struct Book {
+    pub regions: u8,
+    pub services: u8,
+    pub window: u16,
+    pub halves: u8,
+    pub parents: [u8; 8],
+    pub threshold: i64,
+    pub cap: i32,
+    pub floor: i32,
+    pub entries: u32,
+    pub position: u16,
+    pub counts: [u16; 8],
+    pub nexts: [u16; 8],
+    pub sums: [i64; 88],
+    pub marks: [u8; 88],
+}
+
+/// The answer of an opening, a setting and a load.
+#[repr(C)]
+#[derive(Clone, Copy, Debug, PartialEq, Eq)]
+#[allow(missing_docs)]
+pub struct Kept {
+    pub book: Book,
+    pub number: u32,
+    pub place: u64,
+}
+
+/// The answer of an entry.
+#[repr(C)]
+#[derive(Clone, Copy, Debug, PartialEq, Eq)]
+#[allow(missing_docs)]
+pub struct Entered {
+    pub book: Book,
+    pub number: u32,
+    pub place: u64,
+    pub count: u32,
+}
+
+/// The answer of a report.
+#[repr(C)]
+#[derive(Clone, Copy, Debug, PartialEq, Eq)]
+#[allow(missing_docs)]
+pub struct Reading {
+    pub number: u32,
+    pub counted: u32,
+    pub mark: u32,
+    pub entries: u32,
+    pub sum: i64,
+}
+
+/// The answer of a store.
+#[repr(C)]
+#[derive(Clone, Copy, Debug, PartialEq, Eq)]
+#[allow(missing_docs)]
+pub struct Stored {
+    pub number: u32,
+    pub length: u64,
+}
+
+/// The answer of the schedule maker.
+#[repr(C)]
+#[derive(Clone, Copy, Debug, PartialEq, Eq)]
+#[allow(missing_docs)]
+pub struct Rows {
+    pub number: u32,
+    pub place: u64,
+    pub weekday: [i32; 48],
+    pub weekend: [i32; 48],
+}
+
+// The layout that the archive was compiled with.
+const _: () = {
+    assert!(size_of::<usize>() == 8);
+    assert!(size_of::<Settings>() == 32);
+    assert!(offset_of!(Settings, first) == 6 && offset_of!(Settings, parents) == 8);
+    assert!(offset_of!(Settings, threshold) == 16 && offset_of!(Settings, cap) == 24);
+    assert!(size_of::<Book>() == BOOK_LENGTH);
+    assert!(offset_of!(Book, window) == 2 && offset_of!(Book, parents) == 5);
+    assert!(offset_of!(Book, threshold) == 16 && offset_of!(Book, cap) == 24);
+    assert!(offset_of!(Book, floor) == 28 && offset_of!(Book, entries) == 32);
+    assert!(offset_of!(Book, position) == 36 && offset_of!(Book, counts) == 38);
+    assert!(offset_of!(Book, nexts) == 54 && offset_of!(Book, sums) == 72);
+    assert!(offset_of!(Book, marks) == 776);
+    assert!(size_of::<Kept>() == 880 && offset_of!(Kept, number) == 864);
+    assert!(offset_of!(Kept, place) == 872);
+    assert!(size_of::<Entered>() == 888 && offset_of!(Entered, count) == 880);
+    assert!(size_of::<Reading>() == 24 && offset_of!(Reading, sum) == 16);
+    assert!(size_of::<Stored>() == 16 && offset_of!(Stored, length) == 8);
+    assert!(size_of::<Rows>() == 400 && offset_of!(Rows, weekend) == 208);
+};
+
+impl Book {
+    /// "A closed book (all zero)".
+    pub const CLOSED: Book = Book {
+        regions: 0,
+        services: 0,
+        window: 0,
+        halves: 0,
+        parents: [0; 8],
+        threshold: 0,
+        cap: 0,
+        floor: 0,
+        entries: 0,
+        position: 0,
+        counts: [0; 8],
+        nexts: [0; 8],
+        sums: [0; 88],
+        marks: [0; 88],
+    };
+}
+
+mod face {
+    use super::{Book, Entered, Kept, Reading, Rows, Settings, Stored};
+
+    extern "C" {
+        pub fn guxhamole_open(settings: Settings, ring: *mut i32, ring_length: usize) -> Kept;
+        pub fn guxhamole_set_threshold(book: Book, threshold: i64) -> Kept;
+        pub fn guxhamole_set_limits(book: Book, cap: i32, floor: i32) -> Kept;
+        pub fn guxhamole_report(book: Book, region: u32, market: u32) -> Reading;
+        pub fn guxhamole_enter(
+            book: Book,
+            ring: *mut i32,
+            ring_length: usize,
+            number: u32,
+            day_kind: u8,
+            prices: *const i32,
+            prices_length: usize,
+            marks: *const u8,
+            marks_length: usize,
+            flows: *const i32,
+            flows_length: usize,
+            factors: *const u32,
+            factors_length: usize,
+            schedule: *const i32,
+            schedule_length: usize,
+            table: *mut i32,
+            table_length: usize,
+        ) -> Entered;
+        pub fn guxhamole_store(
+            book: Book,
+            ring: *const i32,
+            ring_length: usize,
+            image: *mut u8,
+            image_length: usize,
+        ) -> Stored;
+        pub fn guxhamole_load(
+            image: *const u8,
+            image_length: usize,
+            ring: *mut i32,
+            ring_length: usize,
+        ) -> Kept;
+        pub fn guxhamole_schedule(
+            halves: u8,
+            cap: i32,
+            floor: i32,
+            energy: u8,
+            prices: *const i32,
+            prices_length: usize,
+            day_kinds: *const u8,
+            day_kinds_length: usize,
+        ) -> Rows;
+        pub fn guxhamole_amount_text(cents: i64, buffer: *mut u8, buffer_length: usize) -> usize;
+        pub fn guxhamole_image_check(image: *const u8, length: usize) -> u32;
+        pub fn guxhamole_index(
+            amount: u64,
+            c1: u32,
+            c2: u32,
+            c3: u32,
+            c4: u32,
+            b1: u32,
+            b2: u32,
+            b3: u32,
+            b4: u32,
+            last: u64,
+        ) -> i64;
+        pub fn guxhamole_replay(
+            calls: *const u8,
+            calls_length: usize,
+            answers: *mut u8,
+            answers_length: usize,
+            ring: *mut i32,
+            ring_length: usize,
+            other: *mut i32,
+            other_length: usize,
+            image: *mut u8,
+            image_length: usize,
+            numbers: *mut i32,
+            numbers_length: usize,
+            factors: *mut u32,
+            factors_length: usize,
+            table: *mut i32,
+            table_length: usize,
+        ) -> usize;
+        pub fn guxhamole_abi() -> u32;
+    }
+}
+
+// "The slices" in the comments below: each pointer is its slice's, so that it is aligned, not null even where the slice is empty,
+// and good for the length beside it, `&` to read and `&mut` to read and write. They are borrowed for the whole call, and the
+// borrow checker keeps what is written apart from everything else that is lent. Any contents and lengths are allowed, books of
+// any fields too, and no function keeps a pointer.
+
+/// "Open: 20 a setting; 11 ring length; 18 threshold; 19 cap or floor."
+pub fn open(settings: Settings, ring: &mut [i32]) -> Kept {
+    // SAFETY: the slices are as said above.
+    unsafe { face::guxhamole_open(settings, ring.as_mut_ptr(), ring.len()) }
+}
+
+/// "Settings: 10; 18 or 19."
+pub fn set_threshold(book: Book, threshold: i64) -> Kept {
+    // SAFETY: numbers alone go in and out; any are allowed.
+    unsafe { face::guxhamole_set_threshold(book, threshold) }
+}
+
+/// "Settings: 10; 18 or 19."
+pub fn set_limits(book: Book, cap: i32, floor: i32) -> Kept {
+    // SAFETY: numbers alone go in and out; any are allowed.
+    unsafe { face::guxhamole_set_limits(book, cap, floor) }
+}
+
+/// "Report: 10; 21 region or market."
+pub fn report(book: Book, region: u32, market: u32) -> Reading {
+    // SAFETY: numbers alone go in and out; any are allowed.
+    unsafe { face::guxhamole_report(book, region, market) }
+}
+
+/// "Entry: 10; 11 any slice's length", and so on to 17.
+pub fn enter(book: Book, ring: &mut [i32], entry: crate::Entry<'_>, table: &mut [i32]) -> Entered {
+    // SAFETY: the slices are as said above; those of the entry are read alone, and may overlap each other.
+    unsafe {
+        face::guxhamole_enter(
+            book,
+            ring.as_mut_ptr(),
+            ring.len(),
+            entry.number,
+            entry.day_kind,
+            entry.prices.as_ptr(),
+            entry.prices.len(),
+            entry.marks.as_ptr(),
+            entry.marks.len(),
+            entry.flows.as_ptr(),
+            entry.flows.len(),
+            entry.factors.as_ptr(),
+            entry.factors.len(),
+            entry.schedule.as_ptr(),
+            entry.schedule.len(),
+            table.as_mut_ptr(),
+            table.len(),
+        )
+    }
+}
+
+/// "Store: 10; 11; 22 …; 23 buffer shorter than the image."
+pub fn store(book: Book, ring: &[i32], image: &mut [u8]) -> Stored {
+    let (buffer, length) = (image.as_mut_ptr(), image.len());
+    // SAFETY: the slices are as said above.
+    unsafe { face::guxhamole_store(book, ring.as_ptr(), ring.len(), buffer, length) }
+}
+
+/// "Load: 24 …; 25 kind; 26 a field …; 27 length formula; 11; 16".
+pub fn load(image: &[u8], ring: &mut [i32]) -> Kept {
+    let (places, length) = (ring.as_mut_ptr(), ring.len());
+    // SAFETY: the slices are as said above.
+    unsafe { face::guxhamole_load(image.as_ptr(), image.len(), places, length) }
+}
+
+/// "Maker: 31 H or lengths; 32 kind not 0 or 1, or one kind missing; 19; 16 with place." 0 is a service, anything else energy.
+pub fn schedule(halves: u8, limits: (i32, i32), energy: u8, prices: &[i32], kinds: &[u8]) -> Rows {
+    let (cap, floor) = limits;
+    // SAFETY: the slices are as said above.
+    unsafe {
+        face::guxhamole_schedule(
+            halves,
+            cap,
+            floor,
+            energy,
+            prices.as_ptr(),
+            prices.len(),
+            kinds.as_ptr(),
+            kinds.len(),
+        )
+    }
+}
+
+/// The bytes written; 0 where there is no room.
+pub fn amount_text(cents: i64, buffer: &mut [u8]) -> usize {
+    // SAFETY: the slices are as said above.
+    unsafe { face::guxhamole_amount_text(cents, buffer.as_mut_ptr(), buffer.len()) }
+}
+
+/// 0, or the number of the first refusal.
+pub fn image_check(image: &[u8]) -> u32 {
+    // SAFETY: the slices are as said above.
+    unsafe { face::guxhamole_image_check(image.as_ptr(), image.len()) }
+}
+
+/// The dollars, or -30.
+pub fn index(amount: u64, c: [u32; 4], b: [u32; 4], last: u64) -> i64 {
+    let ([c1, c2, c3, c4], [b1, b2, b3, b4]) = (c, b);
+    // SAFETY: numbers alone go in and out; any are allowed.
+    unsafe { face::guxhamole_index(amount, c1, c2, c3, c4, b1, b2, b3, b4, last) }
+}
+
+/// How many of the answers' bytes were written.
+#[allow(clippy::too_many_arguments)] // The C face's slices, one by one.
+pub fn replay(
+    calls: &[u8],
+    answers: &mut [u8],
+    ring: &mut [i32],
+    other: &mut [i32],
+    image: &mut [u8],
+    numbers: &mut [i32],
+    factors: &mut [u32],
+    table: &mut [i32],
+) -> usize {
+    // SAFETY: the slices are as said above.
+    unsafe {
+        face::guxhamole_replay(
+            calls.as_ptr(),
+            calls.len(),
+            answers.as_mut_ptr(),
+            answers.len(),
+            ring.as_mut_ptr(),
+            ring.len(),
+            other.as_mut_ptr(),
+            other.len(),
+            image.as_mut_ptr(),
+            image.len(),
+            numbers.as_mut_ptr(),
+            numbers.len(),
+            factors.as_mut_ptr(),
+            factors.len(),
+            table.as_mut_ptr(),
+            table.len(),
+        )
+    }
+}
+
+/// The archive's version.
+pub fn abi() -> u32 {
+    // SAFETY: it takes nothing and answers a number.
+    unsafe { face::guxhamole_abi() }
+}
