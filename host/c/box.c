@@ -19,6 +19,7 @@
 #include "box_files.h"
 #include "box_lines.h"
 #include "box_market.h"
+#include "box_refusals.h"
 #include "box_step.h"
 
 #include <errno.h>
@@ -61,37 +62,11 @@ static void answer(const char *format, ...)
     va_end(values);
 }
 
-static const char *meaning(uint32_t number)
-{
-    switch (number) {
-    case GUXHAMOLE_BOOK: return "the book is closed or damaged";
-    case GUXHAMOLE_LENGTH: return "a slice's length";
-    case GUXHAMOLE_FULL: return "10,000,000 entries taken";
-    case GUXHAMOLE_NUMBER: return "not the next entry's number";
-    case GUXHAMOLE_DAY_KIND: return "a day kind that is neither 0 nor 1";
-    case GUXHAMOLE_MARK: return "a mark that is neither 0 nor 1";
-    case GUXHAMOLE_PRICE: return "a price out of its market's range";
-    case GUXHAMOLE_FACTOR: return "a factor out of range";
-    case GUXHAMOLE_THRESHOLD: return "a threshold out of range";
-    case GUXHAMOLE_LIMITS: return "a cap or floor out of range";
-    case GUXHAMOLE_SETTING: return "a setting out of range";
-    case GUXHAMOLE_MARKET: return "no such region or market";
-    case GUXHAMOLE_SUMS: return "a sum that is not its prices' total";
-    case GUXHAMOLE_BUFFER: return "a buffer shorter than the image";
-    case GUXHAMOLE_IMAGE_LENGTH: return "an image cut short, or none";
-    case GUXHAMOLE_IMAGE_KIND: return "an image of another kind";
-    case GUXHAMOLE_IMAGE_FIELD: return "an image with a field out of range";
-    case GUXHAMOLE_IMAGE_TOTAL: return "an image of another length than its counts say";
-    default: return "unknown";
-    }
-}
-
 static void refused(uint32_t number, uint64_t place)
 {
-    if (number == GUXHAMOLE_MARK || number == GUXHAMOLE_PRICE || number == GUXHAMOLE_FACTOR)
-        answer("refused %" PRIu32 " (%s) at %" PRIu64, number, meaning(number), place);
-    else
-        answer("refused %" PRIu32 " (%s)", number, meaning(number));
+    char text[REFUSAL_TEXT];
+    refusal_text(number, place, text);
+    answer("%s", text);
 }
 
 /* Saves the book. A box whose book and file would part company ends, and the next start goes on from the file. */

@@ -6,8 +6,8 @@
 static uint64_t number(const uint8_t *image, size_t at, int bytes)
 {
     uint64_t n = 0;
-    for (int i = bytes; i > 0; i--)
-        n = n << 8 | image[at + i - 1];
+    for (int i = bytes - 1; i >= 0; i--)
+        n = n << 8 | image[at + (size_t)i];
     return n;
 }
 
