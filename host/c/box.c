@@ -1,21 +1,23 @@
-/* The foundry's box, an example to copy: `box IMAGE` keeps one book of the real market, reads lines (box_lines.h) from standard input and
-   answers them on standard output. Build: cc -std=c11 -o box host/c/box*.c target/staticlib/libcapi.a
+/* The foundry's box, an example to copy: `box IMAGE` keeps one book of the real market, reads lines (box_lines.h) from standard
+   input and answers them on standard output. The one line that builds it is in host/c/README.md.
 
    Each line is answered by one line that begins at its first column, details indented above it:
-     accepted ..                    an interval, threshold or limits, and the book with it is saved (box_files.h: crash-safely)
+     accepted ..                    an interval, threshold or limits; the book with it is saved (box_files.h), safe from a crash
      given, saved, region ..        a schedule's row; a save; a report
      refused N (meaning) [at P]     by the book, which is as it was; docs/REFUSALS.md
      bad line: why                  it is no line of box_lines.h, or a row of the schedule is lacking; nothing was called
-   The details of an interval are each change of a period, and each price that publication changed: entry price -> published price;
-   of a marked region, which is priced by schedule, every published price. They come before the save, so that a box that is killed
-   has told them of every interval that it saved; they hold with the `accepted`, or with the next start's `entries taken`.
+   The details of an interval are each change of a period, and each price that publication changed: entry price -> published
+   price; of a marked region, which is priced by schedule, every published price. They come before the save, so that a box that
+   is killed has told them of every interval that it saved; they hold with the `accepted`, or with the next start's `entries taken`.
 
-   At its start the box loads IMAGE, or IMAGE.old where IMAGE is missing or refused, or opens a new book where neither is there; where
-   neither loads it doesn't start. What comes back: the entries taken, the position in the day, threshold and limits, the
+   At its start the box loads IMAGE, or IMAGE.old where IMAGE is missing or refused, or opens a new book where neither is there;
+   where neither loads it doesn't start. What comes back: the entries taken, the position in the day, threshold and limits, the
    windows' prices and sums, and the periods. What doesn't and must be given again: the schedule's rows. An image has no checksum:
    a price that was changed to another one in range loads.
 
-   Nothing is deduplicated. A feeder that doesn't know whether its last interval was saved sends it again: refused by 13, it was. */
+   Nothing is deduplicated. A feeder that doesn't know whether its last interval was saved sends it again: refused by 13, it was. A
+   box that started on IMAGE.old may be one save behind: its feeder goes on from the `entries taken` that the start says, and sets
+   threshold and limits again. */
 #include "box_files.h"
 #include "box_lines.h"
 #include "box_market.h"
@@ -105,8 +107,8 @@ static void tell_prices(const struct line *line, const int32_t *table)
     }
 }
 
-/* After a start the schedule is zeros until its rows are given, and zeros would be published: a region can be marked once every row
-   of its own is there. */
+/* After a start the schedule is zeros until its rows are given, and zeros would be published: a region can be marked once every
+   row of its own is there. */
 static int rows_lack(const struct box *box, const struct line *line)
 {
     for (int row = 0; row < PRICES * KINDS; row++)

@@ -1,6 +1,7 @@
 /* Feeds a box: prints the lines of a day and an hour of the real market. Region 3's schedule is given first. At eight in the
-   morning region 3 is suspended for ten minutes; from five in the afternoon region 0's energy spikes for an hour, and region 1's first
-   service for half an hour; the market's periods end with the day. `box_feed short` prints a sample with every kind of line. */
+   morning region 3 is suspended for ten minutes; from five in the afternoon the energy of regions 0 and 1 spikes for an hour, and
+   region 1's first service for half an hour; the periods end with the day. `box_feed short` prints host/c/box.lines, a sample with
+   every kind of line. */
 #include "feed.h"
 
 #include <string.h>

@@ -5,11 +5,11 @@
      2. IMAGE is renamed to IMAGE.old, if it holds a book that loads: the last good one is kept;
      3. IMAGE.new is renamed to IMAGE;
      4. the folder is synced. Only then does the box say `accepted`.
-   A start takes IMAGE, or IMAGE.old where IMAGE is missing or refused. Up to 2 IMAGE is the image saved before, between 2 and 3 IMAGE.old
-   is, from 3 on IMAGE is the new one; a rename is one step of the file system, and each was synced before it got its name. So a
-   box that is killed anywhere starts on the last image but this or on this one, and on this one if it had said `accepted`. Where
-   IMAGE was refused and the box started on IMAGE.old, the next save leaves 2 out, so that a damaged file never takes the good
-   one's place. IMAGE.new is never read.
+   A start takes IMAGE, or IMAGE.old where IMAGE is missing or refused. Up to 2 IMAGE is the image saved before, between 2 and 3
+   IMAGE.old is, from 3 on IMAGE is the new one; a rename is one step of the file system, and each file was synced before it got
+   its name. So a box that is killed anywhere starts on the image before or on the new one, and on the new one if it had said
+   `accepted`. Where IMAGE was refused and the box started on IMAGE.old, the next save leaves 2 out, so that a damaged file never
+   takes the good one's place. IMAGE.new is never read.
 
    One box at a time may use an image: two would save over one another. */
 #ifndef BOX_FILES_H

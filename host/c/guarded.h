@@ -1,5 +1,5 @@
-/* Memory to lend, with guard bytes before and after it: a call that writes past what it is lent is seen, and so is one that writes to
-   what it may only read. */
+/* Memory to lend, with guard bytes before and after it: a call that writes past what it is lent is seen, and so is one that
+   writes to what it may only read. */
 #ifndef GUARDED_H
 #define GUARDED_H
 

@@ -188,8 +188,8 @@ static int64_t mean(unsigned half, unsigned kind, unsigned halves, const int32_t
     return total < 0 ? -whole : whole;
 }
 
-struct independent_rows independent_schedule(unsigned halves, int32_t cap, int32_t floor, int energy, const int32_t *prices, size_t count,
-                                             const uint8_t *kinds, size_t days)
+struct independent_rows independent_schedule(unsigned halves, int32_t cap, int32_t floor, int energy, const int32_t *prices,
+                                             size_t count, const uint8_t *kinds, size_t days)
 {
     struct independent_rows made;
     memset(&made, 0, sizeof made);

@@ -1,5 +1,5 @@
-/* The image check, the index, the day sheet, the amount text and the schedule maker in plain C, written from the specification alone and sharing nothing with the
-   proved code: the tests compare the two. */
+/* The image check, the index, the day sheet, the amount text and the schedule maker in plain C, written from the specification
+   alone and sharing nothing with the proved code: the tests compare the two. */
 #ifndef INDEPENDENT_H
 #define INDEPENDENT_H
 
@@ -23,7 +23,7 @@ struct independent_rows {
     int32_t rows[2][48];
 };
 
-struct independent_rows independent_schedule(unsigned halves, int32_t cap, int32_t floor, int energy, const int32_t *prices, size_t count,
-                                             const uint8_t *kinds, size_t days);
+struct independent_rows independent_schedule(unsigned halves, int32_t cap, int32_t floor, int energy, const int32_t *prices,
+                                             size_t count, const uint8_t *kinds, size_t days);
 
 #endif

@@ -1,6 +1,9 @@
 /* Counts the moments of a box that is built for the kill test, and ends it by SIGKILL at one of them. BOX_KILL_AT is the
    moment's number, from 1; BOX_MOMENTS names a file that the moments are written to, a line each. */
 #define _POSIX_C_SOURCE 200809L
+#ifndef BOX_STEPS
+#define BOX_STEPS
+#endif
 
 #include "box_step.h"
 

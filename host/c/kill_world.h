@@ -71,8 +71,8 @@ int image_same(const struct image *one, const struct image *other);
 /* Removes the box's files. */
 void no_files(void);
 
-/* Runs the box on the image at `image`, fed `input`; killed at its step `kill_at`, or not if 0; its files have at most `most` bytes, or
-   any number if 0. */
+/* Runs the box on the image at `image`, fed `input`; killed at its step `kill_at`, or not if 0; its files have at most `most`
+   bytes, or any number if 0. */
 const struct outcome *run_box(const char *image, const char *input, long kill_at, size_t most);
 
 /* Makes the lines, and learns what an unkilled box does with them. */

@@ -1,5 +1,5 @@
-/* Lists of typed calls over random books. Each call is made, and beside it written as a record (docs/RECORDS.md) with the record of its
-   answer; at the end guxhamole_replay must write the same answers from the same calls. */
+/* Lists of typed calls over random books. Each call is made, and beside it written as a record (docs/RECORDS.md) with the record
+   of its answer; at the end guxhamole_replay must write the same answers from the same calls. */
 #include "typed_lists.h"
 
 #include "guarded.h"
@@ -202,7 +202,8 @@ static void spoil_entry(struct entry *entry, size_t regions, size_t prices)
 
 static void put_entry(const struct entry *entry)
 {
-    size_t words = entry->prices_length + entry->flows_length + entry->factors_length + entry->schedule_length + entry->table_length;
+    size_t words = entry->prices_length + entry->flows_length + entry->factors_length + entry->schedule_length +
+                   entry->table_length;
     put_head(&calls, 40 + entry->marks_length + 4 * words, ENTRY);
     put(&calls, 4, entry->number);
     put(&calls, 1, entry->day_kind);
@@ -235,9 +236,9 @@ static void enter(struct host *host)
     memcpy(ring, host->ring, 4 * host->right.ring);
     int32_t after = entry->table[entry->table_length]; /* lent or not, it is there: SPARE and the guard */
     guxhamole_entered entered =
-        guxhamole_enter(host->book, host->ring, entry->ring_length, entry->number, entry->day_kind, entry->prices, entry->prices_length,
-                        entry->marks, entry->marks_length, entry->flows, entry->flows_length, entry->factors, entry->factors_length,
-                        entry->schedule, entry->schedule_length, entry->table, entry->table_length);
+        guxhamole_enter(host->book, host->ring, entry->ring_length, entry->number, entry->day_kind, entry->prices,
+                        entry->prices_length, entry->marks, entry->marks_length, entry->flows, entry->flows_length, entry->factors,
+                        entry->factors_length, entry->schedule, entry->schedule_length, entry->table, entry->table_length);
     host->book = entered.book;
     host->whole &= entry->table[entry->table_length] == after;
     if (entered.number != GUXHAMOLE_ACCEPTED)
@@ -311,16 +312,18 @@ static int replayed_alike(const struct host *host)
 {
     struct lengths right = host->right;
     size_t numbers = right.prices + right.regions + right.schedule + 3 * SPARE;
-    size_t length = guxhamole_replay(calls.bytes, calls.length, answers.bytes, BYTES, (int32_t *)guarded(4 * right.ring), right.ring,
-                                     (int32_t *)guarded(4 * right.ring), host->other_length, (uint8_t *)guarded(host->image_length),
-                                     host->image_length, (int32_t *)guarded(4 * numbers), numbers,
-                                     (uint32_t *)guarded(4 * (right.regions + SPARE)), right.regions + SPARE,
-                                     (int32_t *)guarded(4 * (right.prices + SPARE)), right.prices + SPARE);
+    int32_t *ring = (int32_t *)guarded(4 * right.ring), *other = (int32_t *)guarded(4 * right.ring);
+    uint8_t *image = (uint8_t *)guarded(host->image_length);
+    int32_t *entry = (int32_t *)guarded(4 * numbers), *table = (int32_t *)guarded(4 * (right.prices + SPARE));
+    uint32_t *factors = (uint32_t *)guarded(4 * (right.regions + SPARE));
+    size_t length = guxhamole_replay(calls.bytes, calls.length, answers.bytes, BYTES, ring, right.ring, other, host->other_length,
+                                     image, host->image_length, entry, numbers, factors, right.regions + SPARE, table,
+                                     right.prices + SPARE);
     return length == wanted.length && memcmp(answers.bytes, wanted.bytes, length) == 0 && guarded_whole();
 }
 
-/* The lengths that the settings ask for; the ring is now and then one short. They are those of good settings, so that a book that was
-   refused for a bad one is lent something; but no more ring than a replay lends, which is R x M x W at most. */
+/* The lengths that the settings ask for; the ring is now and then one short. They are those of good settings, so that a book
+   that was refused for a bad one is lent something; but no more ring than a replay lends, which is R x M x W at most. */
 static struct lengths lengths_of(guxhamole_settings good, guxhamole_settings told)
 {
     struct lengths right;

@@ -1,6 +1,7 @@
-/* Holds the typed calls to others: lists of calls to guxhamole_replay; loads and stores, the schedule maker and the amount text to the
-   independent code; and books that were damaged, are full or have another's ring to the refusals that they must meet. Guards
-   stand round all that is lent. All from a fixed seed. Exit status 1 with the case at the first difference. */
+/* Holds the typed calls to others: lists of calls to guxhamole_replay; loads and stores, the schedule maker and the amount text to
+   the independent code; and books that were damaged, are full or have a wrong sum to the refusals that they must meet. Guards
+   stand round all that is lent. All from a fixed seed. Exit status 1 with the case at the first difference. Given a number, it
+   does that part of it alone: `typed_test 10` a tenth, for slow checkers. */
 #include "guarded.h"
 #include "guxhamole.h"
 #include "independent.h"
@@ -14,6 +15,7 @@
 enum { LISTS = 200, IMAGES = 2000, SCHEDULES = 1500, TEXTS = 20000, WIDEST = 12, RING_MOST = 88 * WIDEST };
 
 static long loads, stores, damaged, makings, texts;
+static int part = 1;
 
 static void differs(const char *what, uint64_t from)
 {
@@ -23,7 +25,7 @@ static void differs(const char *what, uint64_t from)
 
 static void lists(struct list_counts *counts)
 {
-    for (int i = 0; i < LISTS; i++) {
+    for (int i = 0; i < LISTS / part; i++) {
         uint64_t from = seed;
         if (!list_alike(counts))
             differs("a list", from);
@@ -36,7 +38,8 @@ static int same_book(const guxhamole_book *one, const guxhamole_book *other)
            one->halves == other->halves && memcmp(one->parents, other->parents, sizeof one->parents) == 0 &&
            one->threshold == other->threshold && one->cap == other->cap && one->floor == other->floor &&
            one->entries == other->entries && one->position == other->position &&
-           memcmp(one->counts, other->counts, sizeof one->counts) == 0 && memcmp(one->nexts, other->nexts, sizeof one->nexts) == 0 &&
+           memcmp(one->counts, other->counts, sizeof one->counts) == 0 &&
+           memcmp(one->nexts, other->nexts, sizeof one->nexts) == 0 &&
            memcmp(one->sums, other->sums, sizeof one->sums) == 0 && memcmp(one->marks, other->marks, sizeof one->marks) == 0;
 }
 
@@ -114,7 +117,7 @@ static void load(const uint8_t *bytes, size_t length, uint64_t from)
 static void images(void)
 {
     static uint8_t image[148 + 4 * RING_MOST];
-    for (int i = 0; i < IMAGES; i++) {
+    for (int i = 0; i < IMAGES / part; i++) {
         uint64_t from = seed;
         size_t length = any_image(WIDEST, image);
         load(image, length, from);
@@ -149,7 +152,7 @@ static guxhamole_book loaded_book(uint32_t entries, int32_t *ring)
 {
     static uint8_t image[148 + 4 * RING_MOST];
     struct plan plan = plain();
-    plan.regions = 8, plan.services = 10, plan.window = WIDEST, plan.halves = 48, plan.entries = entries;
+    plan.regions = 8, plan.services = 10, plan.window = WIDEST, plan.halves = 48, plan.entries = entries, plan.threshold = 100000;
     for (int region = 0; region < 8; region++)
         plan.counts[region] = 3;
     guxhamole_kept kept = guxhamole_load(image, lay_out(&plan, 500, image), ring, RING_MOST);
@@ -197,7 +200,8 @@ static guxhamole_entered enter_plain(guxhamole_book book, int32_t *ring, uint32_
     static int32_t zeros[88 * 2 * 48], table[88];
     static uint8_t marks[8];
     static uint32_t factors[8];
-    return guxhamole_enter(book, ring, RING_MOST, number, 0, zeros, 88, marks, 8, zeros, 8, factors, 8, zeros, 88 * 2 * 48, table, 88);
+    return guxhamole_enter(book, ring, RING_MOST, number, 0, zeros, 88, marks, 8, zeros, 8, factors, 8, zeros, 88 * 2 * 48, table,
+                           88);
 }
 
 static void full_book(void)
@@ -231,7 +235,8 @@ static void any_making(int32_t *prices, uint8_t *kinds)
     }
     int32_t cap = (int32_t)below(below(2) ? 10000003 : 20), floor = -(int32_t)below(below(2) ? 10000003 : 20);
     guarded_keep();
-    guxhamole_rows told = guxhamole_schedule((uint8_t)halves, cap, floor, (uint8_t)(energy ? 1 + below(255) : 0), prices, count, kinds, days);
+    uint8_t anything = (uint8_t)(energy ? 1 + below(255) : 0);
+    guxhamole_rows told = guxhamole_schedule((uint8_t)halves, cap, floor, anything, prices, count, kinds, days);
     struct independent_rows want = independent_schedule(halves, cap, floor, (int)energy, prices, count, kinds, days);
     if (told.number != want.number || told.place != want.place || memcmp(told.weekday, want.rows[0], sizeof told.weekday) != 0 ||
         memcmp(told.weekend, want.rows[1], sizeof told.weekend) != 0 || !guarded_whole())
@@ -243,7 +248,7 @@ static void schedules(void)
 {
     int32_t *prices = (int32_t *)guarded_fixed(4 * 168 * 51);
     uint8_t *kinds = (uint8_t *)guarded_fixed(28);
-    for (int i = 0; i < SCHEDULES; i++)
+    for (int i = 0; i < SCHEDULES / part; i++)
         any_making(prices, kinds);
     guarded_free();
 }
@@ -271,14 +276,16 @@ static void amounts(void)
     for (size_t i = 0; i < sizeof bounds / sizeof *bounds; i++)
         for (size_t room = 0; room <= GUXHAMOLE_TEXT_MAX + 5; room++)
             text_of(bounds[i], room, buffer);
-    for (int i = 0; i < TEXTS; i++)
+    for (int i = 0; i < TEXTS / part; i++)
         text_of((int64_t)next() >> below(64), below(4) ? GUXHAMOLE_TEXT_MAX : below(GUXHAMOLE_TEXT_MAX + 1), buffer);
     guarded_free();
 }
 
-int main(void)
+int main(int count, char **words)
 {
     static struct list_counts counts;
+    if (count > 1 && atoi(words[1]) > 0)
+        part = atoi(words[1]);
     if (guxhamole_abi() != GUXHAMOLE_ABI)
         differs("the archive's number", 0);
     lists(&counts);
@@ -287,8 +294,8 @@ int main(void)
     full_book();
     schedules();
     amounts();
-    printf("%d lists of %ld calls alike: %ld entries (%ld accepted, %ld prices changed), %ld restarts; refusals", LISTS, counts.calls,
-           counts.entries, counts.accepted, counts.changed, counts.restarts);
+    printf("%d lists of %ld calls alike: %ld entries (%ld accepted, %ld prices changed), %ld restarts; refusals", LISTS / part,
+           counts.calls, counts.entries, counts.accepted, counts.changed, counts.restarts);
     for (int number = 1; number < 64; number++)
         if (counts.seen[number] != 0)
             printf(" %d: %ld", number, counts.seen[number]);
