@@ -11,15 +11,15 @@
    Proved over sequences of calls: for every opening and every list of calls after it the answers are exactly those of the
    ledger machine, which keeps the whole history and no sum: acceptance, or refusal with its place; an entry's count and
    published table; a report's four numbers. For that to hold of a host, it
-   - begins with an accepted guxhamole_open, or goes on from an image by an accepted guxhamole_load (a restart, below);
+   - begins with an accepted guxhamole_open;
    - hands each call the book that the call before handed back, accepted or refused; guxhamole_report and guxhamole_store
      hand none back and change none, so that the next call gets the same book again;
    - lends the ring that the opening or load was lent, at its full length, and lets these calls alone write to it and to the
      book (both may be copied and moved between calls: what they hold counts, not where they stand);
    - restarts by a guxhamole_store into a long enough buffer and a guxhamole_load, from exactly the `length` bytes that were
-     stored, into another ring of the right length, and goes on with the book and the ring of that load. The ledger machine
-     doesn't see a restart: nothing is lost, and no answer is another for it. An older image takes the book back to where it was
-     stored.
+     stored, into another ring of the right length, and goes on with the book and the ring of that load, in the same process or
+     in a later one. The ledger machine doesn't see a restart: nothing is lost, and no answer is another for it. An older image
+     takes the history back to where it was stored; of one that others made or changed this says nothing.
    Over such a sequence 10 and 22 never occur: either one says that the book or the ring was changed by others.
 
    What no proof speaks of and the host must see to: a slice is a pointer and its length in elements, aligned for its type. No
