@@ -1,12 +1,215 @@
-/* The functions that a C host may call. All are proved for all arguments: they read and write only what they are lent, the
-   index and the image check write nothing, and they end. Link with libcapi.a, which `rt staticlib capi` writes to
-   target/staticlib, for x86-64 Linux alone. docs/REFUSALS.md has every number that they answer: its meaning, its place and what
-   a host should do. */
+/* The functions that a host in C11 or C++17 calls: a book of administered prices that the host keeps in its own memory, and
+   beside it the image check, the schedule maker, the index, the amount text and the replay of lists of calls. Link with
+   libcapi.a, which `rt staticlib capi` writes to target/staticlib, for x86-64 Linux alone. docs/REFUSALS.md has every number
+   that they answer: its meaning, its place and what a host should do. host/c/box.c is a host to copy.
+
+   Proved of every function, for all arguments: it reads and writes only what it is lent, allocates nothing, keeps no pointer
+   and no state of its own, ends, and its whole outcome (the answer, the book that it hands back and the contents of every
+   slice that it is lent) is that of the rule's definition. A refused call writes nothing, hands the book back as it was and
+   answers zeros beside number and place.
+
+   Proved over sequences of calls: for every opening and every list of calls after it the answers are exactly those of the
+   ledger machine, which keeps the whole history and no sum: acceptance, or refusal with its place; an entry's count and
+   published table; a report's four numbers. For that to hold of a host, it
+   - begins with an accepted guxhamole_open;
+   - hands each call the book that the call before handed back, accepted or refused; guxhamole_report and guxhamole_store
+     hand none back and change none, so that the next call gets the same book again;
+   - lends the ring that the opening or load was lent, at its full length, and lets these calls alone write to it and to the
+     book (both may be copied and moved between calls: what they hold counts, not where they stand);
+   - restarts by a guxhamole_store into a long enough buffer and a guxhamole_load, from exactly the `length` bytes that were
+     stored, into another ring of the right length, and goes on with the book and the ring of that load, in the same process or
+     in a later one. The ledger machine doesn't see a restart: nothing is lost, and no answer is another for it. An older image
+     takes the history back to where it was stored; of one that others made or changed this says nothing.
+   Over such a sequence 10 and 22 never occur: either one says that the book or the ring was changed by others.
+
+   What no proof speaks of and the host must see to: a slice is a pointer and its length in elements, aligned for its type. No
+   pointer may be null (where a length is 0 it may be any other). No two slices of a call may overlap where one of them is
+   written. Nothing that is lent may be written to by others during the call.
+
+   Threads and signal handlers: the functions are reentrant, since they have no state. Any number of books may be in use at
+   once; one book and its ring belong to one thread at a time.
+
+   Stack: measured, not proved. With the largest book a call took at most 8 KB, the replay 14 KB, the caller's frame with the lent
+   book and the answer counted in; host/c/stack.c measures it, and the gate holds it to the two bounds GUXHAMOLE_STACK. */
 #ifndef GUXHAMOLE_H
 #define GUXHAMOLE_H
 
 #include <stddef.h>
 #include <stdint.h>
+
+#ifdef __cplusplus
+extern "C" {
+#endif
+
+/* A new number wherever a struct or a prototype changes. A host compares it with what the archive answers, once, at its start:
+   where they differ, header and archive don't belong together. */
+#define GUXHAMOLE_ABI 1
+uint32_t guxhamole_abi(void);
+
+/* Bytes of stack that hold any call but the replay, and the replay. */
+#define GUXHAMOLE_STACK 12288
+#define GUXHAMOLE_STACK_REPLAY 20480
+
+/* Lengths in elements, with R regions, S services (so S + 1 markets a region), a window of W prices and H half-hours a day. */
+#define GUXHAMOLE_PRICES(R, S) ((size_t)(R) * ((size_t)(S) + 1))                /* an entry's prices, and its table */
+#define GUXHAMOLE_RING(R, S, W) (GUXHAMOLE_PRICES(R, S) * (size_t)(W))          /* exactly */
+#define GUXHAMOLE_SCHEDULE(R, S, H) (GUXHAMOLE_PRICES(R, S) * 2 * (size_t)(H))  /* an entry's schedule */
+#define GUXHAMOLE_IMAGE_MAX(R, S, W) (148 + 4 * GUXHAMOLE_RING(R, S, W))        /* bytes that hold every image of the book */
+#define GUXHAMOLE_MAKER_PRICES(H) ((size_t)(H) * 168)                           /* 28 days of 6 x H prices */
+#define GUXHAMOLE_MAKER_DAYS 28
+#define GUXHAMOLE_TEXT_MAX 21                                                   /* bytes that hold every amount's text */
+
+/* An answer's `number`: 0, or the first refusal of the call's list. `place` is 0 unless it is named here. */
+enum guxhamole_refusal {
+    GUXHAMOLE_ACCEPTED = 0,
+    GUXHAMOLE_BOOK = 10,         /* the book is closed, or a field of it is outside its limits */
+    GUXHAMOLE_LENGTH = 11,       /* a lent slice has another length than it must have */
+    GUXHAMOLE_FULL = 12,         /* 10,000,000 entries were taken */
+    GUXHAMOLE_NUMBER = 13,       /* the entry's number is not the next, which is the number of entries taken */
+    GUXHAMOLE_DAY_KIND = 14,     /* the day kind is neither 0 nor 1 */
+    GUXHAMOLE_MARK = 15,         /* a mark is neither 0 nor 1; place: its region */
+    GUXHAMOLE_PRICE = 16,        /* a price is out of its market's range; place: in the lent prices, or among the image's */
+    GUXHAMOLE_FACTOR = 17,       /* the factor of a region that has a parent is outside 10,000..20,000; place: its region */
+    GUXHAMOLE_THRESHOLD = 18,    /* the threshold is outside 1..100,000,000,000 */
+    GUXHAMOLE_LIMITS = 19,       /* the cap is outside 1..10,000,000 or the floor outside -10,000,000..-1 */
+    GUXHAMOLE_SETTING = 20,      /* another setting of an opening is outside its limits */
+    GUXHAMOLE_MARKET = 21,       /* the report's region or market is not one of the book's */
+    GUXHAMOLE_SUMS = 22,         /* a counted price of the ring is out of range, or a sum is not the total of its prices */
+    GUXHAMOLE_BUFFER = 23,       /* the buffer is shorter than the image */
+    GUXHAMOLE_IMAGE_LENGTH = 24, /* fewer than 148 bytes, or the image's length field is not the lent length */
+    GUXHAMOLE_IMAGE_KIND = 25,   /* the image's kind is not 1 */
+    GUXHAMOLE_IMAGE_FIELD = 26,  /* a field of bytes 6 to 147 is outside its limits, or an unused one is not zero */
+    GUXHAMOLE_IMAGE_TOTAL = 27,  /* the image's length is not 148 + 4 x markets x (sum of counts) */
+    GUXHAMOLE_INDEX = 30,        /* a number of the index is outside its limits; answered as -30 */
+    GUXHAMOLE_MAKER_LENGTH = 31, /* half-hours outside 1..48, or not 28 days of prices and kinds */
+    GUXHAMOLE_MAKER_KIND = 32,   /* a day kind is neither 0 nor 1, or one of the two is missing */
+    GUXHAMOLE_TEXT = 33          /* the buffer is too short for the text; shown by a length of 0 alone */
+};
+
+/* What a book is opened with; money in cents. */
+typedef struct guxhamole_settings {
+    uint8_t regions;    /* R, 1..8 */
+    uint8_t services;   /* S, 0..10: market 0 of a region is energy, markets 1 to S are services */
+    uint16_t window;    /* W, 1..2,016 */
+    uint8_t halves;     /* H, half-hours a day, 1..48; a day has 6 x H intervals */
+    uint16_t first;     /* the first entry's position in its day, 0..6 x H - 1 */
+    uint8_t parents[8]; /* a lower region that is linked to this one, or 255 for none; 255 at 0 and from R up */
+    int64_t threshold;  /* 1..100,000,000,000 */
+    int32_t cap;        /* 1..10,000,000 */
+    int32_t floor;      /* -10,000,000..-1 */
+} guxhamole_settings;
+
+/* The book: plain data, to be kept and copied. Any bytes are a book (damaged ones are refused by 10); the closed one is all
+   zero. The fields may be read, and are changed through the calls alone. It has padding: compare two field by field. */
+typedef struct guxhamole_book {
+    uint8_t regions, services;
+    uint16_t window;
+    uint8_t halves, parents[8];
+    int64_t threshold;
+    int32_t cap, floor;
+    uint32_t entries;   /* taken; the next entry's number */
+    uint16_t position;  /* the next entry's, in its day */
+    uint16_t counts[8]; /* prices counted, a region each */
+    uint16_t nexts[8];  /* the next place in its windows, a region each */
+    int64_t sums[88];   /* at 11 x region + market */
+    uint8_t marks[88];  /* likewise: 1 where the market is administered at the next entry, else 0 */
+} guxhamole_book;
+
+/* The answers. All but number and place are zeros when refused; the book is then the lent one, or closed where none was lent. */
+typedef struct guxhamole_kept {
+    guxhamole_book book;
+    uint32_t number;
+    uint64_t place;
+} guxhamole_kept;
+
+typedef struct guxhamole_entered {
+    guxhamole_book book;
+    uint32_t number;
+    uint64_t place;
+    uint32_t count; /* of published prices that differ from the effective ones */
+} guxhamole_entered;
+
+typedef struct guxhamole_reading {
+    uint32_t number;
+    uint32_t counted; /* prices in the market's window */
+    uint32_t mark;    /* 1 where it is administered at the next entry, else 0 */
+    uint32_t entries; /* taken by the book */
+    int64_t sum;      /* of the window, in cents */
+} guxhamole_reading;
+
+typedef struct guxhamole_stored {
+    uint32_t number;
+    uint64_t length; /* of the image, in bytes */
+} guxhamole_stored;
+
+typedef struct guxhamole_rows {
+    uint32_t number;
+    uint64_t place;
+    int32_t weekday[48], weekend[48]; /* places from H up are zero */
+} guxhamole_rows;
+
+/* Opens a book and zeroes its ring of GUXHAMOLE_RING(R, S, W) places.
+   Refusals: 20, 11, 18, 19. Refused: the closed book, and the ring as it was. */
+guxhamole_kept guxhamole_open(guxhamole_settings settings, int32_t *ring, size_t ring_length);
+
+/* Sets the threshold, or cap and floor, in cents, from the next entry on. An image keeps them.
+   Refusals: 10, 18; of the limits 10, 19. Refused: the book as it was. */
+guxhamole_kept guxhamole_set_threshold(guxhamole_book book, int64_t threshold);
+guxhamole_kept guxhamole_set_limits(guxhamole_book book, int32_t cap, int32_t floor);
+
+/* A market's sum, prices counted and period mark, and the entries taken. Refusals: 10, 21. */
+guxhamole_reading guxhamole_report(guxhamole_book book, uint32_t region, uint32_t market);
+
+/* Takes one interval and publishes its prices. With M = S + 1 markets a region, the lengths are exact:
+     ring      the book's
+     number    the entries taken so far; one that was taken already is refused by 13 and so counts once
+     day_kind  0 weekday, 1 weekend or holiday
+     prices    R x M in cents, at region x M + market: energy -10,000,000..10,000,000, services 0..10,000,000; those of a marked
+               region are not looked at
+     marks     R: 1 where the region is priced by schedule, else 0
+     flows     R: above 0 from the region to its parent, below 0 from the parent, 0 none; not looked at without a parent
+     factors   R: the loss factor of the link to the parent, in ten-thousandths, 10,000..20,000; not looked at without a parent
+     schedule  R x M x 2 x H in cents, at ((region x M + market) x 2 + kind) x H + half-hour; it is lent at every entry, and
+               nothing of it is kept
+     table     R x M, where the published prices are written, at region x M + market
+   Refusals: 10, 11, 12, 13, 14, 15, 16, 17; place of 15 to 17: the first bad one in the lent slice. Refused: the book, the ring
+   and the table as they were. */
+guxhamole_entered guxhamole_enter(guxhamole_book book,
+                                  int32_t *ring, size_t ring_length,
+                                  uint32_t number, uint8_t day_kind,
+                                  const int32_t *prices, size_t prices_length,
+                                  const uint8_t *marks, size_t marks_length,
+                                  const int32_t *flows, size_t flows_length,
+                                  const uint32_t *factors, size_t factors_length,
+                                  const int32_t *schedule, size_t schedule_length,
+                                  int32_t *table, size_t table_length);
+
+/* Writes the book's image as the first bytes of the buffer, and answers its length; the bytes after it stay.
+   Refusals: 10, 11, 22, 23. Refused: the buffer as it was. GUXHAMOLE_IMAGE_MAX(R, S, W) bytes always suffice. */
+guxhamole_stored guxhamole_store(guxhamole_book book, const int32_t *ring, size_t ring_length,
+                                 uint8_t *image, size_t image_length);
+
+/* The book of an image, lent exactly its bytes, into a ring of the image's R x M x W places.
+   Refusals: 24, 25, 26, 27, 11, 16; place of 16: from 0 among the image's prices. Refused: the closed book, and the ring as it
+   was. No image is refused by another rule than its bytes and the ring's length: that it is the host's own market is for the
+   host to see to (regions, services, window, halves and parents of the book). */
+guxhamole_kept guxhamole_load(const uint8_t *image, size_t length, int32_t *ring, size_t ring_length);
+
+/* Whether a book can be loaded from an image, given a ring of the right length.
+   Answers 0, or the load's number with 11 left out: 24, 25, 26, 27, 16. */
+uint32_t guxhamole_image_check(const uint8_t *image, size_t length);
+
+/* Makes one market's rows of a suspension schedule, a row a kind: of each half-hour the mean of its prices on the days of that
+   kind, rounded half away from zero, then held within floor and cap (energy) or 0 and cap (a service).
+     halves     H, 1..48
+     energy     0: a service; anything else: energy
+     prices     28 x 6 x H in cents, day by day
+     day_kinds  28: 0 weekday, 1 weekend or holiday; both must be there
+   Refusals: 31, 32, 19 (the floor of a service too), 16; place of 16: in the lent prices. A row has 48 places: an entry's
+   schedule takes the first H of them. */
+guxhamole_rows guxhamole_schedule(uint8_t halves, int32_t cap, int32_t floor, uint8_t energy,
+                                  const int32_t *prices, size_t prices_length,
+                                  const uint8_t *day_kinds, size_t day_kinds_length);
 
 /* An amount of dollars indexed by the four quarters of year c over the four of year b (quarters in tenths), to the nearest
    100 dollars, half up, and never below last year's amount.
@@ -17,19 +220,12 @@ int64_t guxhamole_index(uint64_t amount,
                         uint32_t b1, uint32_t b2, uint32_t b3, uint32_t b4,
                         uint64_t last);
 
-/* Whether a book can be loaded from an image of `length` bytes. The image must not be written to during the call; where
-   `length` is 0, `image` may be any pointer but a null one.
-   Answers 0, or the number of the first refusal:
-     24  fewer than 148 bytes, or the length field is not `length`
-     25  the kind is not 1
-     26  a field of bytes 6 to 147 is outside its limits, or an unused one is not zero
-     27  `length` is not 148 + 4 x markets x (sum of counts)
-     16  a price is out of its market's range */
-uint32_t guxhamole_image_check(const uint8_t *image, size_t length);
+/* An amount of cents as text: minus if below 0, dollars, point, two digits; no zero byte after it. Answers the bytes written, the
+   first of the buffer; the rest stays. 0: no room (33), and the buffer as it was. */
+size_t guxhamole_amount_text(int64_t cents, uint8_t *buffer, size_t buffer_length);
 
-/* Plays a list of calls over a book, from its opening on, and writes their answers; docs/RECORDS.md has the bytes of both.
-   Each slice is a pointer and its length in elements. No two may overlap, no pointer may be null (where a length is 0 it may
-   be any other), and none may be touched by others during the call. With M = S + 1 markets a region:
+/* Plays a list of calls over a book, from its opening on, and writes their answers; docs/RECORDS.md has the bytes of both. It
+   is for tests and for whole histories: a running host keeps a book instead. With M = S + 1 markets a region:
      calls    the records, end to end, the opening first; not written to
      answers  where the answers are written: 14 bytes a call, for an entry 18 and four a place of its table, for a report 34
      ring     the book's prices: R x M x W places; the opening zeroes them, whatever they held
@@ -54,5 +250,67 @@ size_t guxhamole_replay(const uint8_t *calls, size_t calls_length,
                         int32_t *numbers, size_t numbers_length,
                         uint32_t *factors, size_t factors_length,
                         int32_t *table, size_t table_length);
+
+#ifdef __cplusplus
+}
+#define GUXHAMOLE_ASSERT(what) static_assert(what, #what)
+#else
+#define GUXHAMOLE_ASSERT(what) _Static_assert(what, #what)
+#endif
+
+/* The layouts that the archive was built with. */
+#define GUXHAMOLE_SIZE(type, size) GUXHAMOLE_ASSERT(sizeof(guxhamole_##type) == (size))
+#define GUXHAMOLE_AT(type, field, place) GUXHAMOLE_ASSERT(offsetof(guxhamole_##type, field) == (place))
+GUXHAMOLE_SIZE(settings, 32);
+GUXHAMOLE_AT(settings, regions, 0);
+GUXHAMOLE_AT(settings, services, 1);
+GUXHAMOLE_AT(settings, window, 2);
+GUXHAMOLE_AT(settings, halves, 4);
+GUXHAMOLE_AT(settings, first, 6);
+GUXHAMOLE_AT(settings, parents, 8);
+GUXHAMOLE_AT(settings, threshold, 16);
+GUXHAMOLE_AT(settings, cap, 24);
+GUXHAMOLE_AT(settings, floor, 28);
+GUXHAMOLE_SIZE(book, 864);
+GUXHAMOLE_AT(book, regions, 0);
+GUXHAMOLE_AT(book, services, 1);
+GUXHAMOLE_AT(book, window, 2);
+GUXHAMOLE_AT(book, halves, 4);
+GUXHAMOLE_AT(book, parents, 5);
+GUXHAMOLE_AT(book, threshold, 16);
+GUXHAMOLE_AT(book, cap, 24);
+GUXHAMOLE_AT(book, floor, 28);
+GUXHAMOLE_AT(book, entries, 32);
+GUXHAMOLE_AT(book, position, 36);
+GUXHAMOLE_AT(book, counts, 38);
+GUXHAMOLE_AT(book, nexts, 54);
+GUXHAMOLE_AT(book, sums, 72);
+GUXHAMOLE_AT(book, marks, 776);
+GUXHAMOLE_SIZE(kept, 880);
+GUXHAMOLE_AT(kept, book, 0);
+GUXHAMOLE_AT(kept, number, 864);
+GUXHAMOLE_AT(kept, place, 872);
+GUXHAMOLE_SIZE(entered, 888);
+GUXHAMOLE_AT(entered, book, 0);
+GUXHAMOLE_AT(entered, number, 864);
+GUXHAMOLE_AT(entered, place, 872);
+GUXHAMOLE_AT(entered, count, 880);
+GUXHAMOLE_SIZE(reading, 24);
+GUXHAMOLE_AT(reading, number, 0);
+GUXHAMOLE_AT(reading, counted, 4);
+GUXHAMOLE_AT(reading, mark, 8);
+GUXHAMOLE_AT(reading, entries, 12);
+GUXHAMOLE_AT(reading, sum, 16);
+GUXHAMOLE_SIZE(stored, 16);
+GUXHAMOLE_AT(stored, number, 0);
+GUXHAMOLE_AT(stored, length, 8);
+GUXHAMOLE_SIZE(rows, 400);
+GUXHAMOLE_AT(rows, number, 0);
+GUXHAMOLE_AT(rows, place, 8);
+GUXHAMOLE_AT(rows, weekday, 16);
+GUXHAMOLE_AT(rows, weekend, 208);
+#undef GUXHAMOLE_SIZE
+#undef GUXHAMOLE_AT
+#undef GUXHAMOLE_ASSERT
 
 #endif

@@ -1,13 +1,14 @@
-/* The image check, the index and the day sheet in plain C, from the specification alone. */
+/* The image check, the index, the day sheet, the amount text and the schedule maker in plain C, from the specification alone. */
 #include "independent.h"
 
 #include <stdio.h>
+#include <string.h>
 
 static uint64_t number(const uint8_t *image, size_t at, int bytes)
 {
     uint64_t n = 0;
-    for (int i = bytes; i > 0; i--)
-        n = n << 8 | image[at + i - 1];
+    for (int i = bytes - 1; i >= 0; i--)
+        n = n << 8 | image[at + (size_t)i];
     return n;
 }
 
@@ -147,4 +148,64 @@ size_t independent_sheet(const uint8_t *image, size_t length, char *out)
                                  (unsigned long long)(size / 100), (unsigned long long)(size % 100), image[60 + 11 * r + m]);
         }
     return n;
+}
+
+size_t independent_text(int64_t cents, char *text)
+{
+    uint64_t size = cents < 0 ? 0 - (uint64_t)cents : (uint64_t)cents;
+    return (size_t)sprintf(text, "%s%llu.%02llu", cents < 0 ? "-" : "", (unsigned long long)(size / 100),
+                           (unsigned long long)(size % 100));
+}
+
+/* The first refusal of a schedule's numbers, but for a bad price. */
+static uint32_t schedule_refusal(unsigned halves, int32_t cap, int32_t floor, size_t count, const uint8_t *kinds, size_t days)
+{
+    if (halves < 1 || halves > 48 || count != 28 * 6 * (size_t)halves || days != 28)
+        return 31;
+    unsigned weekends = 0;
+    for (size_t day = 0; day < days; day++) {
+        if (kinds[day] > 1)
+            return 32;
+        weekends += kinds[day];
+    }
+    if (weekends == 0 || weekends == 28)
+        return 32;
+    return cap < 1 || cap > 10000000 || floor < -10000000 || floor > -1 ? 19 : 0;
+}
+
+/* The mean of a half-hour's prices on the days of a kind, rounded half away from zero. */
+static int64_t mean(unsigned half, unsigned kind, unsigned halves, const int32_t *prices, const uint8_t *kinds)
+{
+    int64_t total = 0, counted = 0;
+    for (size_t day = 0; day < 28; day++)
+        for (size_t i = 0; i < 6 && kinds[day] == kind; i++) {
+            total += prices[day * 6 * halves + 6 * half + i];
+            counted++;
+        }
+    int64_t size = total < 0 ? -total : total, whole = size / counted;
+    if (2 * (size % counted) >= counted)
+        whole++;
+    return total < 0 ? -whole : whole;
+}
+
+struct independent_rows independent_schedule(unsigned halves, int32_t cap, int32_t floor, int energy, const int32_t *prices,
+                                             size_t count, const uint8_t *kinds, size_t days)
+{
+    struct independent_rows made;
+    memset(&made, 0, sizeof made);
+    made.number = schedule_refusal(halves, cap, floor, count, kinds, days);
+    for (size_t i = 0; made.number == 0 && i < count; i++)
+        if (price_bad(energy ? 0 : 1, prices[i])) {
+            made.number = 16;
+            made.place = i;
+        }
+    if (made.number != 0)
+        return made;
+    int64_t least = energy ? floor : 0;
+    for (unsigned kind = 0; kind < 2; kind++)
+        for (unsigned half = 0; half < halves; half++) {
+            int64_t price = mean(half, kind, halves, prices, kinds);
+            made.rows[kind][half] = (int32_t)(price < least ? least : price > cap ? cap : price);
+        }
+    return made;
 }

@@ -1,5 +1,5 @@
-/* The image check, the index and the day sheet in plain C, written from the specification alone and sharing nothing with the
-   proved code: the tests compare the two. */
+/* The image check, the index, the day sheet, the amount text and the schedule maker in plain C, written from the specification
+   alone and sharing nothing with the proved code: the tests compare the two. */
 #ifndef INDEPENDENT_H
 #define INDEPENDENT_H
 
@@ -12,5 +12,18 @@ int64_t independent_index(uint64_t amount, const uint32_t c[4], const uint32_t b
 
 /* The day sheet of an image as text in `out`, of at least 8,192 bytes; answers the text's length. */
 size_t independent_sheet(const uint8_t *image, size_t length, char *out);
+
+/* The amount's text, in `text` of at least 22 bytes, a zero byte after it; answers its length. */
+size_t independent_text(int64_t cents, char *text);
+
+/* One market's rows, which are zeros when refused; answers the refusal's number, or 0, and its place. */
+struct independent_rows {
+    uint32_t number;
+    uint64_t place;
+    int32_t rows[2][48];
+};
+
+struct independent_rows independent_schedule(unsigned halves, int32_t cap, int32_t floor, int energy, const int32_t *prices,
+                                             size_t count, const uint8_t *kinds, size_t days);
 
 #endif

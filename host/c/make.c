@@ -21,7 +21,9 @@ uint64_t below(uint64_t n)
 
 struct plan plain(void)
 {
-    struct plan p = {.regions = 1, .window = 1, .halves = 1, .threshold = 95000, .cap = 60000, .floor = -60000};
+    struct plan p;
+    memset(&p, 0, sizeof p);
+    p.regions = 1, p.window = 1, p.halves = 1, p.threshold = 95000, p.cap = 60000, p.floor = -60000;
     memset(p.parents, 255, sizeof p.parents);
     return p;
 }
@@ -37,7 +39,7 @@ size_t size_of(const struct plan *plan)
 void put_number(uint8_t *image, size_t at, int bytes, uint64_t n)
 {
     for (int i = 0; i < bytes; i++)
-        image[at + i] = (uint8_t)(n >> 8 * i);
+        image[at + (size_t)i] = (uint8_t)(n >> 8 * i);
 }
 
 void put_price(uint8_t *image, size_t place, int32_t price)

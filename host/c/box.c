@@ -1,0 +1,291 @@
+/* The foundry's box, an example to copy: `box IMAGE` keeps one book of the real market, reads lines (box_lines.h) from standard
+   input and answers them on standard output. The one line that builds it is in host/c/README.md.
+
+   Each line is answered by one line that begins at its first column, details indented above it:
+     accepted ..                    an interval, threshold or limits; the book with it is saved (box_files.h), safe from a crash
+     given, saved, region ..        a schedule's row; a save; a report
+     refused N (meaning) [at P]     by the book, which is as it was; docs/REFUSALS.md
+     bad line: why                  it is no line of box_lines.h, or a row of the schedule is lacking; nothing was called
+   The details of an interval are each change of a period, and each price that publication changed: entry price -> published
+   price; of a marked region, which is priced by schedule, every published price. They come before the save, so that a box that
+   is killed has told them of every interval that it saved; they hold with the `accepted`, or with the next start's `entries taken`.
+
+   At its start the box loads IMAGE, or IMAGE.old where IMAGE is missing or refused, or opens a new book where neither is there;
+   where neither loads it doesn't start. What comes back: the entries taken, the position in the day, threshold and limits, the
+   windows' prices and sums, and the periods. What doesn't and must be given again: the schedule's rows. An image has no checksum:
+   a price that was changed to another one in range loads.
+
+   Nothing is deduplicated. A feeder that doesn't know whether its last interval was saved sends it again: refused by 13, it was. A
+   box that started on IMAGE.old may be one save behind: its feeder goes on from the `entries taken` that the start says, and sets
+   threshold and limits again. */
+#include "box_files.h"
+#include "box_lines.h"
+#include "box_market.h"
+#include "box_refusals.h"
+#include "box_step.h"
+
+#include <errno.h>
+#include <inttypes.h>
+#include <stdarg.h>
+#include <stdio.h>
+#include <stdlib.h>
+#include <string.h>
+
+enum ending { ENDED = 0, NOT_STARTED = 1, BROKEN = 2 };
+
+struct box {
+    guxhamole_book book;
+    int32_t ring[RING];
+    int32_t schedule[SCHEDULE];
+    uint8_t given[PRICES * KINDS]; /* the schedule's rows that were given since the start */
+    uint8_t image[IMAGE_MAX + 1];  /* one byte more, so that a longer file is seen to be longer */
+    struct box_files files;
+};
+
+/* What a box has said is with its reader before it goes on; a box that cannot speak ends. */
+static void flush(void)
+{
+    if (fflush(stdout) != 0)
+        exit(BROKEN);
+}
+
+#if defined __GNUC__
+__attribute__((format(printf, 1, 2)))
+#endif
+static void answer(const char *format, ...)
+{
+    va_list values;
+    va_start(values, format);
+    box_step("before answer");
+    vprintf(format, values);
+    putchar('\n');
+    flush();
+    box_step("after answer");
+    va_end(values);
+}
+
+static void refused(uint32_t number, uint64_t place)
+{
+    char text[REFUSAL_TEXT];
+    refusal_text(number, place, text);
+    answer("%s", text);
+}
+
+/* Saves the book. A box whose book and file would part company ends, and the next start goes on from the file. */
+static void save(struct box *box)
+{
+    guxhamole_stored stored = guxhamole_store(box->book, box->ring, RING, box->image, IMAGE_MAX);
+    if (stored.number != GUXHAMOLE_ACCEPTED) {
+        refused(stored.number, 0);
+        exit(BROKEN);
+    }
+    if (!files_save(&box->files, box->image, stored.length)) {
+        answer("not saved: %s", strerror(errno));
+        exit(BROKEN);
+    }
+}
+
+static void tell_periods(const guxhamole_book *before, const guxhamole_book *after)
+{
+    for (int region = 0; region < REGIONS; region++)
+        for (int market = 0; market < MARKETS; market++) {
+            int place = 11 * region + market;
+            if (after->marks[place] != before->marks[place])
+                printf("  region %d market %d: %s from interval %" PRIu32 " on\n", region, market,
+                       after->marks[place] ? "administered" : "free", after->entries);
+        }
+}
+
+static void tell_prices(const struct line *line, const int32_t *table)
+{
+    for (int place = 0; place < PRICES; place++) {
+        int region = place / MARKETS, market = place % MARKETS;
+        if (line->marks[region])
+            printf("  region %d market %d: by schedule -> %" PRId32 "\n", region, market, table[place]);
+        else if (table[place] != line->prices[place])
+            printf("  region %d market %d: %" PRId32 " -> %" PRId32 "\n", region, market, line->prices[place], table[place]);
+    }
+}
+
+/* After a start the schedule is zeros until its rows are given, and zeros would be published: a region can be marked once every
+   row of its own is there. */
+static int rows_lack(const struct box *box, const struct line *line)
+{
+    for (int row = 0; row < PRICES * KINDS; row++)
+        if (line->marks[row / (MARKETS * KINDS)] == 1 && !box->given[row])
+            return 1;
+    return 0;
+}
+
+static void take_interval(struct box *box, const struct line *line)
+{
+    int32_t table[PRICES] = {0};
+    guxhamole_entered entered = guxhamole_enter(box->book, box->ring, RING, line->number, line->kind, line->prices, PRICES,
+                                                line->marks, REGIONS, line->flows, REGIONS, line->factors, REGIONS,
+                                                box->schedule, SCHEDULE, table, PRICES);
+    if (entered.number != GUXHAMOLE_ACCEPTED) {
+        refused(entered.number, entered.place);
+        return;
+    }
+    tell_periods(&box->book, &entered.book);
+    tell_prices(line, table);
+    flush();
+    box->book = entered.book;
+    save(box);
+    answer("accepted interval %" PRIu32 ", prices changed: %" PRIu32, line->number, entered.count);
+}
+
+static void take_row(struct box *box, const struct line *line)
+{
+    uint32_t row = (line->region * MARKETS + line->market) * KINDS + line->kind;
+    memcpy(box->schedule + row * HALVES, line->row, sizeof line->row);
+    box->given[row] = 1;
+    answer("given schedule %" PRIu32 " %" PRIu32 " %d", line->region, line->market, line->kind);
+}
+
+static void set(struct box *box, guxhamole_kept kept, const char *what)
+{
+    box->book = kept.book;
+    if (kept.number != GUXHAMOLE_ACCEPTED) {
+        refused(kept.number, kept.place);
+        return;
+    }
+    save(box);
+    answer("accepted %s", what);
+}
+
+static void report(const struct box *box, const struct line *line)
+{
+    guxhamole_reading reading = guxhamole_report(box->book, line->region, line->market);
+    if (reading.number != GUXHAMOLE_ACCEPTED) {
+        refused(reading.number, 0);
+        return;
+    }
+    uint8_t text[GUXHAMOLE_TEXT_MAX];
+    size_t length = guxhamole_amount_text(reading.sum, text, sizeof text);
+    answer("region %" PRIu32 " market %" PRIu32 ": %s, sum %.*s of %" PRIu32 " prices, %" PRIu32 " entries taken", line->region,
+           line->market, reading.mark ? "administered" : "free", (int)length, (const char *)text, reading.counted,
+           reading.entries);
+}
+
+static void take(struct box *box, const struct line *line)
+{
+    switch (line->word) {
+    case LINE_INTERVAL:
+        take_interval(box, line);
+        break;
+    case LINE_SCHEDULE:
+        take_row(box, line);
+        break;
+    case LINE_REPORT:
+        report(box, line);
+        break;
+    case LINE_THRESHOLD:
+        set(box, guxhamole_set_threshold(box->book, line->threshold), "threshold");
+        break;
+    case LINE_LIMITS:
+        set(box, guxhamole_set_limits(box->book, line->cap, line->floor), "limits");
+        break;
+    case LINE_SAVE:
+        save(box);
+        answer("saved");
+        break;
+    }
+}
+
+static int run(struct box *box)
+{
+    char text[LINE_MOST + 1];
+    const char *wrong;
+    while (line_read(stdin, text, &wrong)) {
+        struct line line;
+        box_step("line read");
+        if (wrong == NULL)
+            wrong = line_parsed(text, &line);
+        if (wrong == NULL && line.word == LINE_INTERVAL && rows_lack(box, &line))
+            wrong = "a marked region's schedule was not given";
+        if (wrong != NULL)
+            answer("bad line: %s", wrong);
+        else
+            take(box, &line);
+    }
+    return ferror(stdin) ? BROKEN : ENDED;
+}
+
+/* Whether a loaded book is this market's: an image of another one may load as well. */
+static int same_market(const guxhamole_book *book)
+{
+    guxhamole_settings own = BOX_SETTINGS;
+    return book->regions == own.regions && book->services == own.services && book->window == own.window &&
+           book->halves == own.halves && memcmp(book->parents, own.parents, sizeof own.parents) == 0;
+}
+
+enum loading { LOADED, MISSING, UNUSABLE };
+
+static enum loading load(struct box *box, const char *path, const char *name)
+{
+    long length = file_read(path, box->image, sizeof box->image);
+    if (length == -1)
+        return MISSING;
+    if (length < 0) {
+        answer("%s: cannot be read: %s", name, strerror(errno));
+        return UNUSABLE;
+    }
+    guxhamole_kept kept = guxhamole_load(box->image, (size_t)length, box->ring, RING);
+    if (kept.number != GUXHAMOLE_ACCEPTED) {
+        printf("%s: ", name);
+        refused(kept.number, kept.place);
+        return UNUSABLE;
+    }
+    if (!same_market(&kept.book)) {
+        answer("%s: another market's book", name);
+        return UNUSABLE;
+    }
+    box->book = kept.book;
+    answer("started on %s: %" PRIu32 " entries taken", name, kept.book.entries);
+    return LOADED;
+}
+
+static int open_new(struct box *box)
+{
+    guxhamole_settings settings = BOX_SETTINGS;
+    guxhamole_kept kept = guxhamole_open(settings, box->ring, RING);
+    if (kept.number != GUXHAMOLE_ACCEPTED) {
+        refused(kept.number, kept.place);
+        return 0;
+    }
+    box->book = kept.book;
+    answer("started on a new book");
+    return 1;
+}
+
+static int start(struct box *box, const char *image)
+{
+    if (guxhamole_abi() != GUXHAMOLE_ABI || !files_named(&box->files, image)) {
+        answer("not started: another archive than the header's, or a file name that is too long");
+        return 0;
+    }
+    enum loading now = load(box, box->files.image, "IMAGE");
+    box->files.image_loads = now == LOADED;
+    if (now == LOADED)
+        return 1;
+    enum loading before = load(box, box->files.old_image, "IMAGE.old");
+    if (before == LOADED)
+        return 1;
+    if (now == MISSING && before == MISSING)
+        return open_new(box);
+    answer("not started: no image loads");
+    return 0;
+}
+
+int main(int count, char **words)
+{
+    static struct box box;
+    if (count != 2) {
+        fprintf(stderr, "usage: box IMAGE < lines\n");
+        return NOT_STARTED;
+    }
+    if (!start(&box, words[1]))
+        return NOT_STARTED;
+    return run(&box);
+}

@@ -1,0 +1,39 @@
+/* The lines that a box reads. A line is a word and whole numbers in decimal, blanks between them, and ends in byte 10:
+
+     interval NUMBER KIND PRICES MARKS FLOWS FACTORS   an entry: 55 prices (region by region, energy first), 5 marks, 5 flows and 5
+                                                       factors, as guxhamole_enter takes them
+     schedule REGION MARKET KIND PRICES                48 prices: the market's row of the suspension schedule for that day kind
+     report REGION MARKET
+     threshold CENTS
+     limits CAP FLOOR                                  in cents
+     save */
+#ifndef BOX_LINES_H
+#define BOX_LINES_H
+
+#include "box_market.h"
+
+#include <stdio.h>
+
+/* The most bytes of a line: 72 numbers of 11 characters, with a blank each, have 864. */
+enum { LINE_MOST = 2000 };
+
+enum line_word { LINE_INTERVAL, LINE_SCHEDULE, LINE_REPORT, LINE_THRESHOLD, LINE_LIMITS, LINE_SAVE };
+
+/* A line's numbers, each of the type that the call takes; those of other words are not set. */
+struct line {
+    enum line_word word;
+    uint32_t number, region, market;
+    uint8_t kind, marks[REGIONS];
+    int32_t prices[PRICES], flows[REGIONS], row[HALVES], cap, floor;
+    uint32_t factors[REGIONS];
+    int64_t threshold;
+};
+
+/* Reads the next line whole, into `text` of LINE_MOST + 1 bytes, without its end. Answers 0 where the input is at its end. `wrong`
+   says why the line is bad (too long, a zero byte in it, cut short by the input's end), or is null. */
+int line_read(FILE *input, char *text, const char **wrong);
+
+/* What the line says; answers why it is bad, or null. */
+const char *line_parsed(const char *text, struct line *line);
+
+#endif

@@ -1,0 +1,40 @@
+/* A refusal as the box says it; docs/REFUSALS.md says more of each. */
+#include "box_refusals.h"
+
+#include "guxhamole.h"
+
+#include <inttypes.h>
+#include <stdio.h>
+
+static const char *meaning(uint32_t number)
+{
+    switch (number) {
+    case GUXHAMOLE_BOOK: return "the book is closed or damaged";
+    case GUXHAMOLE_LENGTH: return "a slice's length";
+    case GUXHAMOLE_FULL: return "10,000,000 entries taken";
+    case GUXHAMOLE_NUMBER: return "not the next entry's number";
+    case GUXHAMOLE_DAY_KIND: return "a day kind that is neither 0 nor 1";
+    case GUXHAMOLE_MARK: return "a mark that is neither 0 nor 1";
+    case GUXHAMOLE_PRICE: return "a price out of its market's range";
+    case GUXHAMOLE_FACTOR: return "a factor out of range";
+    case GUXHAMOLE_THRESHOLD: return "a threshold out of range";
+    case GUXHAMOLE_LIMITS: return "a cap or floor out of range";
+    case GUXHAMOLE_SETTING: return "a setting out of range";
+    case GUXHAMOLE_MARKET: return "no such region or market";
+    case GUXHAMOLE_SUMS: return "a sum that is not its prices' total";
+    case GUXHAMOLE_BUFFER: return "a buffer shorter than the image";
+    case GUXHAMOLE_IMAGE_LENGTH: return "an image cut short, or none";
+    case GUXHAMOLE_IMAGE_KIND: return "an image of another kind";
+    case GUXHAMOLE_IMAGE_FIELD: return "an image with a field out of range";
+    case GUXHAMOLE_IMAGE_TOTAL: return "an image of another length than its counts say";
+    default: return "unknown";
+    }
+}
+
+void refusal_text(uint32_t number, uint64_t place, char *text)
+{
+    int placed = number == GUXHAMOLE_MARK || number == GUXHAMOLE_PRICE || number == GUXHAMOLE_FACTOR;
+    int length = snprintf(text, REFUSAL_TEXT, "refused %" PRIu32 " (%s)", number, meaning(number));
+    if (placed && length > 0 && length < REFUSAL_TEXT)
+        snprintf(text + length, (size_t)(REFUSAL_TEXT - length), " at %" PRIu64, place);
+}

@@ -1,0 +1,62 @@
+/* Lines for a box, written from what they say. */
+#include "feed.h"
+
+#include <inttypes.h>
+#include <string.h>
+
+static void put(FILE *out, const int32_t *numbers, int count)
+{
+    for (int i = 0; i < count; i++)
+        fprintf(out, " %" PRId32, numbers[i]);
+}
+
+static void put_interval(FILE *out, const struct line *line)
+{
+    fprintf(out, "interval %" PRIu32 " %d", line->number, line->kind);
+    put(out, line->prices, PRICES);
+    for (int region = 0; region < REGIONS; region++)
+        fprintf(out, " %d", line->marks[region]);
+    put(out, line->flows, REGIONS);
+    for (int region = 0; region < REGIONS; region++)
+        fprintf(out, " %" PRIu32, line->factors[region]);
+}
+
+void feed_line(FILE *out, const struct line *line)
+{
+    switch (line->word) {
+    case LINE_INTERVAL:
+        put_interval(out, line);
+        break;
+    case LINE_SCHEDULE:
+        fprintf(out, "schedule %" PRIu32 " %" PRIu32 " %d", line->region, line->market, line->kind);
+        put(out, line->row, HALVES);
+        break;
+    case LINE_REPORT:
+        fprintf(out, "report %" PRIu32 " %" PRIu32, line->region, line->market);
+        break;
+    case LINE_THRESHOLD:
+        fprintf(out, "threshold %" PRId64, line->threshold);
+        break;
+    case LINE_LIMITS:
+        fprintf(out, "limits %" PRId32 " %" PRId32, line->cap, line->floor);
+        break;
+    case LINE_SAVE:
+        fprintf(out, "save");
+        break;
+    }
+    putc('\n', out);
+}
+
+struct line feed_interval(void)
+{
+    struct line line;
+    memset(&line, 0, sizeof line);
+    line.word = LINE_INTERVAL;
+    for (int place = 0; place < PRICES; place++)
+        line.prices[place] = place % MARKETS == 0 ? 5000 + 100 * (place / MARKETS) : 200 + place;
+    for (int region = 0; region < REGIONS; region++) {
+        line.flows[region] = 100;
+        line.factors[region] = 10500;
+    }
+    return line;
+}

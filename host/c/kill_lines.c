@@ -1,0 +1,137 @@
+/* The lines that the kill test feeds a box. Prices, thresholds and limits lie so that periods begin and end within the short window
+   and day of the test's box. */
+#include "kill_lines.h"
+
+#include "feed.h"
+#include "make.h"
+
+#include <string.h>
+
+enum { SUSPENDED = 3 };
+
+static int32_t within(int32_t least, int32_t most)
+{
+    return least + (int32_t)below((uint64_t)(most - least + 1));
+}
+
+static struct line plain_line(enum line_word word)
+{
+    struct line line;
+    memset(&line, 0, sizeof line);
+    line.word = word;
+    return line;
+}
+
+static void put_schedule(FILE *out)
+{
+    struct line line = plain_line(LINE_SCHEDULE);
+    line.region = SUSPENDED;
+    for (line.market = 0; line.market < MARKETS; line.market++)
+        for (int kind = 0; kind < KINDS; kind++) {
+            line.kind = (uint8_t)kind;
+            for (int half = 0; half < HALVES; half++)
+                line.row[half] = within(-90000, 90000);
+            feed_line(out, &line);
+        }
+}
+
+static int32_t any_price(int market)
+{
+    if (market != 0)
+        return below(10) == 0 ? within(0, 90000) : within(0, 2000);
+    if (below(5) == 0)
+        return within(200000, 500000);
+    return below(6) == 0 ? within(-80000, 0) : within(3000, 15000);
+}
+
+static struct line any_interval(uint32_t number)
+{
+    struct line line = plain_line(LINE_INTERVAL);
+    line.number = number;
+    line.kind = (uint8_t)below(KINDS);
+    for (int place = 0; place < PRICES; place++)
+        line.prices[place] = any_price(place % MARKETS);
+    line.marks[SUSPENDED] = below(5) == 0;
+    for (int region = 0; region < REGIONS; region++) {
+        line.flows[region] = within(-1, 1);
+        line.factors[region] = (uint32_t)within(10000, 11000);
+    }
+    return line;
+}
+
+/* An interval that is refused by 13 to 17, or lacks a schedule; the number is the next one's. */
+static void put_refused(FILE *out, uint32_t number)
+{
+    struct line line = any_interval(number);
+    switch (below(6)) {
+    case 0:
+        line.number += (uint32_t)within(1, 3);
+        break;
+    case 1:
+        line.kind = 2;
+        break;
+    case 2:
+        line.marks[below(REGIONS)] = 7;
+        break;
+    case 3:
+        line.prices[below(SUSPENDED * MARKETS)] = 10000001;
+        break;
+    case 4:
+        line.factors[1 + below(REGIONS - 1)] = 9999;
+        break;
+    default:
+        line.marks[0] = 1;
+    }
+    feed_line(out, &line);
+}
+
+static void put_bad(FILE *out)
+{
+    static const char *const bad[] = {
+        "", " save", "save now", "Save", "threshold", "threshold 12x", "threshold 9223372036854775808", "threshold --1",
+        "threshold 1e6", "threshold 0x10", "limits 60000", "limits 60000 -2147483649", "limits 60000 -60000 0", "report 0",
+        "report -1 0", "report 4294967296 0", "interval 0 0 1 2 3", "interval", "schedule 5 0 0", "schedule 3 0 2"};
+    fprintf(out, "%s\n", bad[below(sizeof bad / sizeof *bad)]);
+    if (below(4) == 0)
+        fprintf(out, "report %*d\n", LINE_MOST, 0);
+}
+
+static void put_settings(FILE *out)
+{
+    struct line line = plain_line(LINE_THRESHOLD);
+    line.threshold = 10000 * (int64_t)within(10, 100);
+    if (below(4) == 0)
+        feed_line(out, &line);
+    line.word = LINE_LIMITS;
+    line.cap = within(30000, 60000);
+    line.floor = -within(30000, 60000);
+    if (below(5) == 0)
+        feed_line(out, &line);
+}
+
+static void put_others(FILE *out, uint32_t number)
+{
+    struct line line = plain_line(LINE_REPORT);
+    line.region = (uint32_t)within(0, REGIONS);
+    line.market = (uint32_t)within(0, MARKETS);
+    if (below(3) == 0)
+        feed_line(out, &line);
+    if (below(4) == 0)
+        put_refused(out, number);
+    if (below(5) == 0)
+        put_bad(out);
+    line.word = LINE_SAVE;
+    if (below(10) == 0)
+        feed_line(out, &line);
+}
+
+void kill_lines(FILE *out, int intervals)
+{
+    put_schedule(out);
+    for (uint32_t number = 0; number < (uint32_t)intervals; number++) {
+        put_settings(out);
+        put_others(out, number);
+        struct line line = any_interval(number);
+        feed_line(out, &line);
+    }
+}

@@ -1,0 +1,225 @@
+/* Measures the stack that each function takes with the largest book (8 regions of 11 markets, W 2,016, H 48, windows full): each
+   is called in a thread whose stack was painted before, and the lowest byte that is no longer paint tells. The caller's own frame,
+   with the book that it lends and the answer, is counted in. Entries are measured with links in a chain and in a star, power
+   either way, caps and floors that travel, marked and refused. Exit status 1 where one takes more than the header says. It is a
+   measurement of these calls, on this machine, and no proof. */
+#define _POSIX_C_SOURCE 200809L
+
+#include "guxhamole.h"
+#include "make.h"
+
+#include <pthread.h>
+#include <stdio.h>
+#include <stdlib.h>
+#include <string.h>
+
+enum {
+    REGIONS = 8, SERVICES = 10, MARKETS = SERVICES + 1, PRICES = REGIONS * MARKETS, WINDOW = 2016, HALVES = 48,
+    RING = PRICES * WINDOW, SCHEDULE = PRICES * 2 * HALVES, STACK = 1 << 20, PAINT = 0xc5,
+    ENTRY_RECORD = 40 + 4 * PRICES + REGIONS + 4 * REGIONS + 4 * REGIONS + 4 * SCHEDULE + 4 * PRICES, ENTRY_ANSWER = 18 + 4 * PRICES
+};
+
+static int32_t ring[RING], other[RING], prices[PRICES], flows[REGIONS], schedule[SCHEDULE], table[PRICES];
+static int32_t numbers[PRICES + REGIONS + SCHEDULE], month[168 * HALVES];
+static uint32_t factors[REGIONS], room[REGIONS];
+static uint8_t marks[REGIONS], image[LONGEST], calls[38 + ENTRY_RECORD + 14 + 6], answers[14 + ENTRY_ANSWER + 34 + 14];
+static size_t image_length, calls_length;
+static uint8_t kinds[28];
+static guxhamole_settings settings;
+static guxhamole_book book;
+static volatile uint64_t told; /* so that no call is left out */
+
+static void use_abi(void) { told = guxhamole_abi(); }
+static void use_open(void) { told = guxhamole_open(settings, ring, RING).number; }
+static void use_threshold(void) { told = guxhamole_set_threshold(book, 10000).number; }
+static void use_limits(void) { told = guxhamole_set_limits(book, 60000, -60000).number; }
+static void use_report(void) { told = guxhamole_report(book, 7, 10).number; }
+static void use_store(void) { told = guxhamole_store(book, ring, RING, image, LONGEST).number; }
+static void use_load(void) { told = guxhamole_load(image, image_length, other, RING).number; }
+static void use_check(void) { told = guxhamole_image_check(image, image_length); }
+static void use_schedule(void) { told = guxhamole_schedule(HALVES, 60000, -60000, 1, month, 168 * HALVES, kinds, 28).number; }
+static void use_index(void) { told = (uint64_t)guxhamole_index(1125000, 1194, 1194, 1194, 1195, 961, 961, 961, 961, 1359100); }
+
+static void use_text(void)
+{
+    uint8_t text[GUXHAMOLE_TEXT_MAX];
+    told = guxhamole_amount_text(INT64_MIN, text, sizeof text);
+}
+
+static void use_enter(void)
+{
+    guxhamole_entered entered = guxhamole_enter(book, ring, RING, book.entries, 0, prices, PRICES, marks, REGIONS, flows, REGIONS,
+                                                factors, REGIONS, schedule, SCHEDULE, table, PRICES);
+    book = entered.book;
+    told = entered.number;
+}
+
+static void use_replay(void)
+{
+    told = guxhamole_replay(calls, calls_length, answers, sizeof answers, other, RING, ring, RING, image, LONGEST, numbers,
+                            PRICES + REGIONS + SCHEDULE, room, REGIONS, table, PRICES);
+}
+
+/* A function, a call of it, and the most that was measured. */
+struct use {
+    const char *name;
+    void (*call)(void);
+    size_t most;
+};
+
+static struct use enter = {"enter", use_enter, 0}, load = {"load", use_load, 0};
+
+struct run {
+    void (*call)(void);
+    uint8_t *top;
+};
+
+static void *in_thread(void *given)
+{
+    struct run *run = (struct run *)given;
+    uint8_t here;
+    run->top = &here;
+    run->call();
+    return NULL;
+}
+
+/* The call is made once before, so that the linker's lazy binding of memcpy, if any, is done with. */
+static void measure(struct use *use)
+{
+    static uint8_t *stack;
+    if (stack == NULL && posix_memalign((void **)&stack, 4096, STACK) != 0)
+        exit(1);
+    struct run run = {use->call, NULL};
+    pthread_attr_t attributes;
+    pthread_t thread;
+    use->call();
+    memset(stack, PAINT, STACK);
+    pthread_attr_init(&attributes);
+    if (pthread_attr_setstack(&attributes, stack, STACK) != 0 || pthread_create(&thread, &attributes, in_thread, &run) != 0)
+        exit(1);
+    pthread_join(thread, NULL);
+    pthread_attr_destroy(&attributes);
+    const uint8_t *lowest = stack;
+    while (*lowest == PAINT)
+        lowest++;
+    size_t size = (size_t)(run.top - lowest);
+    use->most = size > use->most ? size : use->most;
+}
+
+/* A call that must be accepted, or refused, lest another one be measured than is meant. */
+static void expect(uint64_t number, struct use *use)
+{
+    measure(use);
+    if (told != number) {
+        printf("stack: %s answered %llu\n", use->name, (unsigned long long)told);
+        exit(1);
+    }
+}
+
+/* Whether it is within its bound. */
+static int print(const struct use *use, size_t bound)
+{
+    printf("%s %zu, ", use->name, use->most);
+    return use->most <= bound;
+}
+
+/* The largest book, every market administered, from an image of windows full of one price. */
+static void open_book(int chain)
+{
+    struct plan plan = plain();
+    plan.regions = REGIONS, plan.services = SERVICES, plan.window = WINDOW, plan.halves = HALVES, plan.entries = 5000;
+    plan.threshold = 10000;
+    for (int region = 0; region < REGIONS; region++) {
+        plan.counts[region] = WINDOW;
+        plan.parents[region] = (uint8_t)(region == 0 ? 255 : chain ? region - 1 : 0);
+        for (int market = 0; market < MARKETS; market++)
+            plan.periods[11 * region + market] = 1;
+    }
+    image_length = lay_out(&plan, 9000000, image);
+    book = guxhamole_load(image, image_length, ring, RING).book;
+}
+
+static void fill_entry(int32_t energy, int32_t flow)
+{
+    for (int place = 0; place < PRICES; place++)
+        prices[place] = place % MARKETS == 0 ? energy : 100000;
+    for (int region = 0; region < REGIONS; region++) {
+        flows[region] = flow;
+        factors[region] = 10500;
+    }
+}
+
+static void measure_entries(int chain)
+{
+    static const int32_t energies[] = {100000, -100000}, ways[] = {1, -1};
+    open_book(chain);
+    for (int i = 0; i < 4; i++) {
+        fill_entry(energies[i % 2], ways[i / 2]);
+        expect(0, &enter);
+    }
+    marks[2] = 1;
+    expect(0, &enter);
+    marks[2] = 0;
+    prices[PRICES - 1] = -1;
+    expect(GUXHAMOLE_PRICE, &enter);
+}
+
+static void put(int width, uint64_t number)
+{
+    put_number(calls, calls_length, width, number);
+    calls_length += (size_t)width;
+}
+
+/* An opening, an entry, a report and a restart as records (docs/RECORDS.md). */
+static void fill_calls(void)
+{
+    static const size_t lengths[] = {PRICES, REGIONS, REGIONS, REGIONS, SCHEDULE, PRICES, RING};
+    calls_length = 0;
+    put(4, 38), put(2, 64), put(1, REGIONS), put(1, SERVICES), put(2, WINDOW), put(1, HALVES), put(1, 0), put(2, 0);
+    for (int region = 0; region < REGIONS; region++)
+        put(1, settings.parents[region]);
+    put(8, 10000), put(4, 60000), put(4, (uint32_t)-60000);
+    put(4, ENTRY_RECORD), put(2, 65), put(4, 0), put(2, 0);
+    for (int i = 0; i < 7; i++)
+        put(4, lengths[i]);
+    calls_length = 38 + 40 + 4 * PRICES + REGIONS + 4 * REGIONS;
+    for (int region = 0; region < REGIONS; region++)
+        put(4, 10500);
+    calls_length = 38 + ENTRY_RECORD;
+    put(4, 14), put(2, 68), put(8, 0);
+    put(4, 6), put(2, 69);
+}
+
+int main(void)
+{
+    static struct use uses[] = {{"threshold", use_threshold, 0}, {"limits", use_limits, 0}, {"report", use_report, 0},
+                                {"store", use_store, 0}, {"image check", use_check, 0}, {"schedule", use_schedule, 0},
+                                {"open", use_open, 0}};
+    static struct use others[] = {{"amount text", use_text, 0}, {"index", use_index, 0}, {"abi", use_abi, 0}};
+    static struct use replay = {"replay", use_replay, 0};
+    guxhamole_settings own = {REGIONS, SERVICES, WINDOW, HALVES, 0, {255, 0, 1, 2, 3, 4, 5, 6}, 10000, 60000, -60000};
+    int within = 1;
+    settings = own;
+    for (int day = 0; day < 28; day++)
+        kinds[day] = day % 7 > 4;
+    measure_entries(0);
+    measure_entries(1);
+    expect(0, &load);
+    within &= print(&enter, GUXHAMOLE_STACK);
+    for (size_t i = 0; i < sizeof uses / sizeof *uses; i++) {
+        expect(0, &uses[i]);
+        within &= print(&uses[i], GUXHAMOLE_STACK);
+    }
+    for (size_t i = 0; i < sizeof others / sizeof *others; i++) {
+        measure(&others[i]);
+        within &= print(&others[i], GUXHAMOLE_STACK);
+    }
+    put_price(image, RING - 1, -1);
+    expect(GUXHAMOLE_PRICE, &load);
+    within &= print(&load, GUXHAMOLE_STACK);
+    fill_calls();
+    expect(sizeof answers, &replay);
+    within &= print(&replay, GUXHAMOLE_STACK_REPLAY);
+    printf("bytes of stack, held to %d and %d for the replay\n", GUXHAMOLE_STACK, GUXHAMOLE_STACK_REPLAY);
+    return !within;
+}

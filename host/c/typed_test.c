@@ -1,0 +1,304 @@
+/* Holds the typed calls to others: lists of calls to guxhamole_replay; loads and stores, the schedule maker and the amount text to
+   the independent code; and books that were damaged, are full or have a wrong sum to the refusals that they must meet. Guards
+   stand round all that is lent. All from a fixed seed. Exit status 1 with the case at the first difference. Given a number, it
+   does that part of it alone: `typed_test 10` a tenth, for slow checkers. */
+#include "guarded.h"
+#include "guxhamole.h"
+#include "independent.h"
+#include "make.h"
+#include "typed_lists.h"
+
+#include <stdio.h>
+#include <stdlib.h>
+#include <string.h>
+
+enum { LISTS = 200, IMAGES = 2000, SCHEDULES = 1500, TEXTS = 20000, WIDEST = 12, RING_MOST = 88 * WIDEST };
+
+static long loads, stores, damaged, makings, texts;
+static int part = 1;
+
+static void differs(const char *what, uint64_t from)
+{
+    printf("typed test: %s, from seed %llu\n", what, (unsigned long long)from);
+    exit(1);
+}
+
+static void lists(struct list_counts *counts)
+{
+    for (int i = 0; i < LISTS / part; i++) {
+        uint64_t from = seed;
+        if (!list_alike(counts))
+            differs("a list", from);
+    }
+}
+
+static int same_book(const guxhamole_book *one, const guxhamole_book *other)
+{
+    return one->regions == other->regions && one->services == other->services && one->window == other->window &&
+           one->halves == other->halves && memcmp(one->parents, other->parents, sizeof one->parents) == 0 &&
+           one->threshold == other->threshold && one->cap == other->cap && one->floor == other->floor &&
+           one->entries == other->entries && one->position == other->position &&
+           memcmp(one->counts, other->counts, sizeof one->counts) == 0 &&
+           memcmp(one->nexts, other->nexts, sizeof one->nexts) == 0 &&
+           memcmp(one->sums, other->sums, sizeof one->sums) == 0 && memcmp(one->marks, other->marks, sizeof one->marks) == 0;
+}
+
+static int is_closed(const guxhamole_book *book)
+{
+    guxhamole_book closed;
+    memset(&closed, 0, sizeof closed);
+    return same_book(book, &closed);
+}
+
+/* The reports of a loaded book are the lines of the independent day sheet. */
+static int sheet_alike(const guxhamole_book *book, const uint8_t *image, size_t length)
+{
+    static char want[8192], told[8192];
+    independent_sheet(image, length, want);
+    size_t n = (size_t)sprintf(told, "region,market,counted,sum,administered\n");
+    for (uint32_t region = 0; region < book->regions; region++)
+        for (uint32_t market = 0; market <= book->services; market++) {
+            guxhamole_reading reading = guxhamole_report(*book, region, market);
+            uint8_t text[GUXHAMOLE_TEXT_MAX];
+            size_t width = guxhamole_amount_text(reading.sum, text, sizeof text);
+            n += (size_t)sprintf(told + n, "%u,%u,%u,%.*s,%u\n", region, market, reading.counted, (int)width, (const char *)text,
+                                 reading.mark);
+            if (reading.number != 0 || reading.entries != book->entries)
+                return 0;
+        }
+    return strcmp(want, told) == 0;
+}
+
+/* A loaded book stores to the image's bytes, into no shorter buffer, and the bytes after them stay. */
+static int stores_back(const guxhamole_book *book, const int32_t *ring, size_t places, const uint8_t *image, size_t length)
+{
+    uint8_t *buffer = (uint8_t *)guarded(length + 5);
+    memset(buffer, 77, length + 5);
+    guxhamole_stored shorter = guxhamole_store(*book, ring, places, buffer, length - 1);
+    int stayed = shorter.number == GUXHAMOLE_BUFFER && shorter.length == 0;
+    for (size_t i = 0; i < length + 5; i++)
+        stayed &= buffer[i] == 77;
+    guxhamole_stored stored = guxhamole_store(*book, ring, places, buffer, length + 5);
+    for (size_t i = length; i < length + 5; i++)
+        stayed &= buffer[i] == 77;
+    stores++;
+    return stayed && stored.number == 0 && stored.length == length && memcmp(buffer, image, length) == 0;
+}
+
+/* A load is refused as the independent check says, 11 before 16; refused, it leaves the ring and answers the closed book. */
+static void load(const uint8_t *bytes, size_t length, uint64_t from)
+{
+    uint8_t *image = (uint8_t *)guarded_fixed(length);
+    memcpy(image, bytes, length);
+    guarded_keep();
+    uint32_t want = independent_check(image, length);
+    size_t right = want == 0 || want == 16 ? GUXHAMOLE_RING(image[6], image[7], image[8] + 256u * image[9]) : 0;
+    size_t places = right <= RING_MOST && below(10) != 0 ? right : below(RING_MOST);
+    if ((want == 0 || want == 16) && places != right)
+        want = GUXHAMOLE_LENGTH;
+    int32_t *ring = (int32_t *)guarded(4 * places), touched = 0;
+    for (size_t i = 0; i < places; i++)
+        ring[i] = 1234567;
+    guxhamole_kept kept = guxhamole_load(image, length, ring, places);
+    if (kept.number != want || (want != GUXHAMOLE_PRICE && kept.place != 0))
+        differs("a load", from);
+    for (size_t i = 0; i < places; i++)
+        touched |= ring[i] != 1234567;
+    if (want != 0 && (touched || !is_closed(&kept.book)))
+        differs("a refused load's ring or book", from);
+    if (want == 0 && (!sheet_alike(&kept.book, image, length) || !stores_back(&kept.book, ring, places, image, length)))
+        differs("a loaded book", from);
+    if (!guarded_whole() || guxhamole_image_check(image, length) != independent_check(image, length))
+        differs("a guard, or the image check", from);
+    guarded_free();
+    loads++;
+}
+
+static void images(void)
+{
+    static uint8_t image[148 + 4 * RING_MOST];
+    for (int i = 0; i < IMAGES / part; i++) {
+        uint64_t from = seed;
+        size_t length = any_image(WIDEST, image);
+        load(image, length, from);
+        if (length > 148)
+            put_price(image, below((length - 148) / 4), below(2) ? 10000001 : -10000001);
+        load(image, length, from);
+        image[4 + below(length - 4)] = (uint8_t)next();
+        load(image, length, from);
+        load(image, below(length), from);
+    }
+}
+
+/* A book with an entry's slices of zeros, of which every call is made. */
+static uint32_t refusals_of(guxhamole_book book, int32_t *ring, size_t places)
+{
+    static int32_t zeros[88 * 2 * 48], table[88];
+    static uint8_t marks[8], image[148 + 4 * RING_MOST];
+    static uint32_t factors[8];
+    guxhamole_kept threshold = guxhamole_set_threshold(book, 10000), limits = guxhamole_set_limits(book, 1, -1);
+    guxhamole_entered entered =
+        guxhamole_enter(book, ring, places, 0, 0, zeros, 88, marks, 8, zeros, 8, factors, 8, zeros, 88 * 2 * 48, table, 88);
+    if (!same_book(&threshold.book, &book) || !same_book(&limits.book, &book) || !same_book(&entered.book, &book))
+        return 0;
+    uint32_t number = entered.number;
+    if (threshold.number != number || limits.number != number || guxhamole_report(book, 0, 0).number != number)
+        return 0;
+    return guxhamole_store(book, ring, places, image, sizeof image).number == number ? number : 0;
+}
+
+/* A book of the largest shape but for its window, open, with as many entries taken and prices counted as are told. */
+static guxhamole_book loaded_book(uint32_t entries, int32_t *ring)
+{
+    static uint8_t image[148 + 4 * RING_MOST];
+    struct plan plan = plain();
+    plan.regions = 8, plan.services = 10, plan.window = WIDEST, plan.halves = 48, plan.entries = entries, plan.threshold = 100000;
+    for (int region = 0; region < 8; region++)
+        plan.counts[region] = 3;
+    guxhamole_kept kept = guxhamole_load(image, lay_out(&plan, 500, image), ring, RING_MOST);
+    if (kept.number != 0)
+        differs("a book to damage", 0);
+    return kept.book;
+}
+
+static void damage_one(guxhamole_book book, int32_t *ring, const char *what)
+{
+    if (refusals_of(book, ring, RING_MOST) != GUXHAMOLE_BOOK)
+        differs(what, 0);
+    damaged++;
+}
+
+/* Every field of a book one past its bound, one at a time, is 10 to every call. */
+static void damaged_books(void)
+{
+    int32_t *ring = (int32_t *)guarded(4 * RING_MOST);
+    const guxhamole_book good = loaded_book(20, ring);
+    guxhamole_book book;
+#define DAMAGE(change) (book = good, book.change, damage_one(book, ring, #change))
+    DAMAGE(regions = 0), DAMAGE(regions = 9), DAMAGE(services = 11), DAMAGE(window = 0), DAMAGE(window = 2017);
+    DAMAGE(halves = 0), DAMAGE(halves = 49), DAMAGE(parents[0] = 0), DAMAGE(parents[3] = 3), DAMAGE(parents[7] = 8);
+    DAMAGE(threshold = 0), DAMAGE(threshold = 100000000001), DAMAGE(cap = 0), DAMAGE(cap = 10000001), DAMAGE(floor = 0);
+    DAMAGE(floor = -10000001), DAMAGE(entries = 10000001), DAMAGE(entries = 2), DAMAGE(position = 288);
+    DAMAGE(counts[5] = WIDEST + 1), DAMAGE(counts[5] = 21), DAMAGE(nexts[2] = 4), DAMAGE(nexts[2] = WIDEST);
+    DAMAGE(sums[87] = 20160000001), DAMAGE(sums[0] = -20160000001), DAMAGE(marks[40] = 2), DAMAGE(marks[87] = 255);
+    DAMAGE(regions = 7), DAMAGE(services = 9);
+#undef DAMAGE
+    memset(&book, 0, sizeof book);
+    damage_one(book, ring, "the closed book");
+    memset(&book, 0xee, sizeof book);
+    damage_one(book, ring, "a book of one byte");
+    book = good;
+    book.sums[30]++;
+    uint8_t image[1] = {0};
+    if (guxhamole_store(book, ring, RING_MOST, image, 1).number != GUXHAMOLE_SUMS)
+        differs("a sum that is not its prices'", 0);
+    guarded_free();
+}
+
+static guxhamole_entered enter_plain(guxhamole_book book, int32_t *ring, uint32_t number)
+{
+    static int32_t zeros[88 * 2 * 48], table[88];
+    static uint8_t marks[8];
+    static uint32_t factors[8];
+    return guxhamole_enter(book, ring, RING_MOST, number, 0, zeros, 88, marks, 8, zeros, 8, factors, 8, zeros, 88 * 2 * 48, table,
+                           88);
+}
+
+static void full_book(void)
+{
+    int32_t *ring = (int32_t *)guarded(4 * RING_MOST);
+    guxhamole_entered last = enter_plain(loaded_book(9999999, ring), ring, 9999999);
+    if (last.number != 0 || last.book.entries != 10000000 || enter_plain(last.book, ring, 10000000).number != GUXHAMOLE_FULL)
+        differs("the last entry", 0);
+    if (guxhamole_set_limits(last.book, 1, -1).number != 0 || guxhamole_report(last.book, 7, 10).entries != 10000000)
+        differs("a full book", 0);
+    guarded_free();
+}
+
+static void any_making(int32_t *prices, uint8_t *kinds)
+{
+    uint64_t from = seed;
+    unsigned halves = (unsigned)(below(8) ? 1 + below(3) : below(51)), energy = (unsigned)below(2);
+    size_t count = 168 * halves, days = 28;
+    int32_t most = below(3) ? 12 : 10000000;
+    for (size_t i = 0; i < count; i++)
+        prices[i] = (int32_t)below((uint64_t)most + 1) * (energy && below(2) ? -1 : 1);
+    for (size_t day = 0; day < 28; day++)
+        kinds[day] = day % 7 > 4;
+    switch (below(16)) {
+    case 0: count -= count > 0; break;
+    case 1: days = below(28); break;
+    case 2: kinds[below(28)] = (uint8_t)below(256); break;
+    case 3: memset(kinds, (int)below(2), 28); break;
+    case 4: prices[below(count + 1)] = below(2) ? 10000001 : energy ? -10000001 : -1; break;
+    default: break;
+    }
+    int32_t cap = (int32_t)below(below(2) ? 10000003 : 20), floor = -(int32_t)below(below(2) ? 10000003 : 20);
+    guarded_keep();
+    uint8_t anything = (uint8_t)(energy ? 1 + below(255) : 0);
+    guxhamole_rows told = guxhamole_schedule((uint8_t)halves, cap, floor, anything, prices, count, kinds, days);
+    struct independent_rows want = independent_schedule(halves, cap, floor, (int)energy, prices, count, kinds, days);
+    if (told.number != want.number || told.place != want.place || memcmp(told.weekday, want.rows[0], sizeof told.weekday) != 0 ||
+        memcmp(told.weekend, want.rows[1], sizeof told.weekend) != 0 || !guarded_whole())
+        differs("a schedule", from);
+    makings++;
+}
+
+static void schedules(void)
+{
+    int32_t *prices = (int32_t *)guarded_fixed(4 * 168 * 51);
+    uint8_t *kinds = (uint8_t *)guarded_fixed(28);
+    for (int i = 0; i < SCHEDULES / part; i++)
+        any_making(prices, kinds);
+    guarded_free();
+}
+
+static void text_of(int64_t cents, size_t room, uint8_t *buffer)
+{
+    char want[32];
+    size_t length = independent_text(cents, want);
+    memset(buffer, '#', GUXHAMOLE_TEXT_MAX + 5);
+    size_t told = guxhamole_amount_text(cents, buffer, room), whole = length <= room ? length : 0;
+    int alike = told == whole && memcmp(buffer, want, whole) == 0;
+    for (size_t i = whole; i < GUXHAMOLE_TEXT_MAX + 5; i++)
+        alike &= buffer[i] == '#';
+    if (!alike || !guarded_whole()) {
+        printf("amount text of %lld in %zu bytes\n", (long long)cents, room);
+        exit(1);
+    }
+    texts++;
+}
+
+static void amounts(void)
+{
+    static const int64_t bounds[] = {INT64_MIN, INT64_MIN + 1, -101, -100, -99, -10, -9, -1, 0, 1, 9, 10, 99, 100, 101, INT64_MAX};
+    uint8_t *buffer = (uint8_t *)guarded(GUXHAMOLE_TEXT_MAX + 5);
+    for (size_t i = 0; i < sizeof bounds / sizeof *bounds; i++)
+        for (size_t room = 0; room <= GUXHAMOLE_TEXT_MAX + 5; room++)
+            text_of(bounds[i], room, buffer);
+    for (int i = 0; i < TEXTS / part; i++)
+        text_of((int64_t)next() >> below(64), below(4) ? GUXHAMOLE_TEXT_MAX : below(GUXHAMOLE_TEXT_MAX + 1), buffer);
+    guarded_free();
+}
+
+int main(int count, char **words)
+{
+    static struct list_counts counts;
+    if (count > 1 && atoi(words[1]) > 0)
+        part = atoi(words[1]);
+    if (guxhamole_abi() != GUXHAMOLE_ABI)
+        differs("the archive's number", 0);
+    lists(&counts);
+    images();
+    damaged_books();
+    full_book();
+    schedules();
+    amounts();
+    printf("%d lists of %ld calls alike: %ld entries (%ld accepted, %ld prices changed), %ld restarts; refusals", LISTS / part,
+           counts.calls, counts.entries, counts.accepted, counts.changed, counts.restarts);
+    for (int number = 1; number < 64; number++)
+        if (counts.seen[number] != 0)
+            printf(" %d: %ld", number, counts.seen[number]);
+    printf("; %ld loads, %ld stores, %ld damaged books, %ld schedules, %ld texts\n", loads, stores, damaged, makings, texts);
+    return 0;
+}
