@@ -2,7 +2,9 @@
 
 pub mod books;
 pub mod cutting;
+pub mod lent;
 pub mod replay;
+pub mod typed;
 
 use std::io::Write;
 
