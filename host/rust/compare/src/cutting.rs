@@ -1,6 +1,6 @@
 //! Makes a failing image or list of calls as short as cutting makes it.
 
-use crate::typed;
+use crate::playing;
 use generator::images::mend_length;
 use generator::lists::{answer_length, List};
 use independent::{ledger, Call};
@@ -129,8 +129,11 @@ fn plainer(list: List, fails: impl Fn(&List) -> bool) -> List {
 }
 
 /// The shortest typed list found, by cutting calls out and making entries plainer, that still fails.
-pub fn shortest_calls(list: &typed::List, fails: impl Fn(&typed::List) -> bool) -> typed::List {
-    let without = |list: &typed::List, start: usize, width: usize| {
+pub fn shortest_calls(
+    list: &playing::List,
+    fails: impl Fn(&playing::List) -> bool,
+) -> playing::List {
+    let without = |list: &playing::List, start: usize, width: usize| {
         let end = (start + width).min(list.calls.len());
         let mut plain = list.clone();
         let cut = plain.calls.drain(start..end);

@@ -1,7 +1,8 @@
 //! Books and rings that no list of calls leads to, through the crate `guxhamole`: every field at each bound and one past it, and rings that
 //! others changed, against the independent book.
 
-use compare::typed::{paper, Pair, Playing, Start};
+use compare::playing::{Playing, Start};
+use compare::typed::{paper, Pair};
 use compare::{books, rounds, say};
 use generator::{calls, images, Random};
 use guxhamole::raw;

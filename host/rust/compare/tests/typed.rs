@@ -1,7 +1,7 @@
 //! Lists of calls through the crate `guxhamole`, call by call, against the independent ledger and the independent book.
 
 use compare::cutting::shortest_calls;
-use compare::typed::{List, Playing, Start};
+use compare::playing::{List, Playing, Start};
 use compare::{books, rounds, say};
 use generator::lists::narrowed;
 use generator::weeks::Weeks;
