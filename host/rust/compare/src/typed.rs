@@ -19,7 +19,7 @@ pub(crate) fn same(holds: bool, what: &str) -> Result<(), Difference> {
 }
 
 /// A compiled answer as the independent ones say theirs.
-fn told<T>(result: Result<T, guxhamole::Refusal>) -> Result<T, Refusal> {
+pub fn told<T>(result: Result<T, guxhamole::Refusal>) -> Result<T, Refusal> {
     result.map_err(|refusal| Refusal {
         number: refusal.number(),
         place: refusal.place().unwrap_or(0) as u32,
