@@ -1,5 +1,5 @@
-//! Typed lists: calls after an opening or an image, played through the crate `guxhamole`, on the independent book and on the independent
-//! ledger; and what is said of a difference.
+//! Typed lists: calls after an opening or an image, played through the crate `guxhamole`, on the independent book and on the
+//! independent ledger; and what is said of a difference.
 
 use crate::cutting::shortest_calls;
 use crate::typed::{same, verdict, Difference, Pair};

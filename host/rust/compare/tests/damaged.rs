@@ -1,11 +1,11 @@
-//! Books and rings that no list of calls leads to, through the crate `guxhamole`: every field at each bound and one past it, and rings that
-//! others changed, against the independent book.
+//! Books and rings that no list of calls leads to, through the crate `guxhamole`: every field at each bound and one past
+//! it, and rings that others changed, against the independent book.
 
 use compare::playing::{Playing, Start};
 use compare::typed::{paper, Pair};
 use compare::{books, rounds, say};
 use generator::{calls, images, Random};
-use guxhamole::raw;
+use guxhamole::{raw, Book};
 use independent::book::FAULTS;
 use independent::image::Fields;
 use independent::ledger::Entry;
@@ -47,6 +47,8 @@ impl Met {
             Some(fault) => *self.faults.entry(fault).or_default() += 1,
             None => self.sound += 1,
         }
+        let bytes = Book::from_raw(*book).to_bytes();
+        assert_eq!(Book::from_bytes(&bytes).raw(), book);
         let mut pair = Pair::of(*book, ring);
         let last = (book.regions.wrapping_sub(1).into(), book.services.into());
         for call in [
@@ -101,155 +103,121 @@ fn ring_for(book: &raw::Book, ring: &[i32]) -> Vec<i32> {
 }
 
 /// Copies of a book, each with one field set to one of some values.
-fn each<V: Copy>(
-    damaged: &mut Vec<raw::Book>,
-    book: &raw::Book,
-    values: &[V],
-    set: impl Fn(&mut raw::Book, V),
-) {
-    for &value in values {
+fn each<V: Copy>(book: &raw::Book, values: &[V], set: fn(&mut raw::Book, V)) -> Vec<raw::Book> {
+    let copy = |&value: &V| {
         let mut copy = *book;
         set(&mut copy, value);
-        damaged.push(copy);
-    }
+        copy
+    };
+    values.iter().map(copy).collect()
 }
 
-/// The settings, entries taken and position at each bound and one past it, and next to what they are.
+/// As `each`, of one place of a field.
+fn each_at<V: Copy>(
+    book: &raw::Book,
+    place: usize,
+    values: &[V],
+    set: fn(&mut raw::Book, usize, V),
+) -> Vec<raw::Book> {
+    let copy = |&value: &V| {
+        let mut copy = *book;
+        set(&mut copy, place, value);
+        copy
+    };
+    values.iter().map(copy).collect()
+}
+
+/// A number's neighbours and itself.
+fn near(field: u8) -> [u8; 3] {
+    [field.wrapping_sub(1), field, field.wrapping_add(1)]
+}
+
+/// Every setting, entries taken and position at each bound and one past it, and next to what they are; the closed book.
 fn damaged_settings(book: &raw::Book) -> Vec<raw::Book> {
-    let mut damaged = vec![raw::Book::CLOSED];
-    let all = &mut damaged;
-    let near = |field: u8| [field.wrapping_sub(1), field, field.wrapping_add(1)];
-    each(all, book, &[0, 1, 7, 8, 9, 255], |book, regions| {
-        book.regions = regions
-    });
-    each(all, book, &near(book.regions), |book, regions| {
-        book.regions = regions
-    });
-    each(all, book, &[0, 9, 10, 11, 255], |book, services| {
-        book.services = services
-    });
-    each(all, book, &near(book.services), |book, services| {
-        book.services = services
-    });
     let (window, day) = (book.window, 6 * u16::from(book.halves));
-    let windows = [
-        0,
-        1,
-        window.wrapping_sub(1),
-        window.wrapping_add(1),
-        2_016,
-        2_017,
-        65_535,
-    ];
-    each(all, book, &windows, |book, window| book.window = window);
-    each(all, book, &[0, 1, 47, 48, 49, 255], |book, halves| {
-        book.halves = halves
-    });
-    let positions = [
-        0,
-        day.wrapping_sub(1),
-        day,
-        day.wrapping_add(1),
-        287,
-        288,
-        65_535,
-    ];
-    each(all, book, &positions, |book, position| {
-        book.position = position
-    });
+    let (below, above) = (window.wrapping_sub(1), window.wrapping_add(1));
+    let windows = [0, 1, below, above, 2_016, 2_017, 65_535];
+    let (last, past) = (day.wrapping_sub(1), day + 1);
+    let positions = [0, last, day, past, 287, 288, 65_535];
     let most = 100_000_000_000;
     let thresholds = [i64::MIN, -1, 0, 1, most, most + 1, i64::MAX];
-    each(all, book, &thresholds, |book, threshold| {
-        book.threshold = threshold
-    });
     let most = 10_000_000;
-    each(
-        all,
-        book,
-        &[i32::MIN, 0, 1, most, most + 1, i32::MAX],
-        |book, cap| book.cap = cap,
-    );
-    each(
-        all,
-        book,
-        &[i32::MIN, -most - 1, -most, -1, 0, i32::MAX],
-        |book, floor| book.floor = floor,
-    );
+    let caps = [i32::MIN, 0, 1, most, most + 1, i32::MAX];
+    let floors = [i32::MIN, -most - 1, -most, -1, 0, i32::MAX];
     let counted = u32::from(book.counts.into_iter().max().unwrap_or(0));
-    let entries = [
-        0,
-        counted.wrapping_sub(1),
-        counted,
-        9_999_999,
-        10_000_000,
-        10_000_001,
-        u32::MAX,
-    ];
-    each(all, book, &entries, |book, entries| book.entries = entries);
-    damaged
+    let (fewer, most) = (counted.wrapping_sub(1), 10_000_000);
+    let entries = [0, fewer, counted, most - 1, most, most + 1, u32::MAX];
+    [
+        vec![raw::Book::CLOSED],
+        each(book, &[0, 1, 7, 8, 9, 255], |book, to| book.regions = to),
+        each(book, &near(book.regions), |book, to| book.regions = to),
+        each(book, &[0, 9, 10, 11, 255], |book, to| book.services = to),
+        each(book, &near(book.services), |book, to| book.services = to),
+        each(book, &windows, |book, to| book.window = to),
+        each(book, &[0, 1, 47, 48, 49, 255], |book, to| book.halves = to),
+        each(book, &positions, |book, to| book.position = to),
+        each(book, &thresholds, |book, to| book.threshold = to),
+        each(book, &caps, |book, to| book.cap = to),
+        each(book, &floors, |book, to| book.floor = to),
+        each(book, &entries, |book, to| book.entries = to),
+    ]
+    .concat()
 }
 
-/// Each region's parent, count and next place, and each market's sum and mark, used and unused, at each bound and one past it.
-fn damaged_places(book: &raw::Book) -> Vec<raw::Book> {
-    let mut damaged = Vec::new();
-    let all = &mut damaged;
-    let window = book.window;
-    for region in 0..8 {
-        let own = region as u8;
-        let parents = [0, own.wrapping_sub(1), own, own + 1, 7, 8, 254, 255];
-        each(all, book, &parents, |book, parent| {
-            book.parents[region] = parent
-        });
-        let (count, next) = (book.counts[region], book.nexts[region]);
-        let counts = [
+/// A region's parent, count and next place, used or not, at each bound and one past it.
+fn damaged_region(book: &raw::Book, region: usize) -> Vec<raw::Book> {
+    let own = region as u8;
+    let parents = [0, own.wrapping_sub(1), own, own + 1, 7, 8, 254, 255];
+    let around = |field: u16| {
+        let (window, past) = (book.window, book.window.wrapping_add(1));
+        let (before, after) = (field.wrapping_sub(1), field.wrapping_add(1));
+        [
             0,
             1,
-            count.wrapping_sub(1),
-            count.wrapping_add(1),
+            before,
+            after,
             window.wrapping_sub(1),
             window,
-            window.wrapping_add(1),
+            past,
             65_535,
-        ];
-        each(all, book, &counts, |book, count| {
-            book.counts[region] = count
-        });
-        each(all, book, &counts, |book, count| {
-            (book.counts[region], book.nexts[region]) = (count, count);
-        });
-        let nexts = [
-            0,
-            1,
-            next.wrapping_sub(1),
-            next.wrapping_add(1),
-            window.wrapping_sub(1),
-            window,
-            window.wrapping_add(1),
-            65_535,
-        ];
-        each(all, book, &nexts, |book, next| book.nexts[region] = next);
-    }
+        ]
+    };
+    let (counts, nexts) = (around(book.counts[region]), around(book.nexts[region]));
+    [
+        each_at(book, region, &parents, |book, at, to| book.parents[at] = to),
+        each_at(book, region, &counts, |book, at, to| book.counts[at] = to),
+        each_at(book, region, &counts, |book, at, to| {
+            (book.counts[at], book.nexts[at]) = (to, to);
+        }),
+        each_at(book, region, &nexts, |book, at, to| book.nexts[at] = to),
+    ]
+    .concat()
+}
+
+/// A market's sum and mark, used or not, at each bound and one past it.
+fn damaged_market(book: &raw::Book, place: usize) -> Vec<raw::Book> {
     let most = 20_160_000_000;
-    for place in 0..88 {
-        let sum = book.sums[place];
-        let bounds = [
-            i64::MIN,
-            -most - 1,
-            -most,
-            -1,
-            0,
-            1,
-            most,
-            most + 1,
-            i64::MAX,
-            sum.wrapping_add(1),
-        ];
-        each(all, book, &bounds, |book, sum| book.sums[place] = sum);
-        each(all, book, &[0, 1, 2, 255], |book, mark| {
-            book.marks[place] = mark
-        });
-    }
-    damaged
+    let other = book.sums[place].wrapping_add(1);
+    let (low, high) = (
+        [i64::MIN, -most - 1, -most, -1],
+        [1, most, most + 1, i64::MAX],
+    );
+    let sums = [&low[..], &[0, other], &high].concat();
+    [
+        each_at(book, place, &sums, |book, at, to| book.sums[at] = to),
+        each_at(book, place, &[0, 1, 2, 255], |book, at, to| {
+            book.marks[at] = to
+        }),
+    ]
+    .concat()
+}
+
+/// Every field in turn.
+fn damaged(book: &raw::Book) -> Vec<raw::Book> {
+    let mut all = damaged_settings(book);
+    all.extend((0..8).flat_map(|region| damaged_region(book, region)));
+    all.extend((0..88).flat_map(|place| damaged_market(book, place)));
+    all
 }
 
 /// A book that a list leads to, with its ring: small windows, mostly full.
@@ -282,7 +250,7 @@ fn every_field() {
         for _ in 0..40 {
             let pair = listed(&mut random);
             let (book, ring) = pair.kept();
-            for damaged in [damaged_settings(book), damaged_places(book)].concat() {
+            for damaged in damaged(book) {
                 met.book(&damaged, &ring_for(&damaged, ring));
             }
         }
@@ -304,7 +272,7 @@ fn several_fields() {
         for _ in 0..60 {
             let (pair, other) = (listed(&mut random), listed(&mut random));
             let (book, ring) = pair.kept();
-            let copies = [damaged_settings(book), damaged_places(book)].concat();
+            let copies = damaged(book);
             for _ in 0..150 {
                 let mut damaged = random.pick(&copies);
                 for _ in 0..random.between(0, 2) {

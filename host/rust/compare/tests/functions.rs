@@ -1,5 +1,5 @@
-//! The schedule maker and the amount text through the crate `guxhamole`, against the independent ones. The image check and the index stand
-//! in `compiled`.
+//! The schedule maker and the amount text through the crate `guxhamole`, against the independent ones. The image check and
+//! the index stand in `compiled`.
 
 use compare::lent::Lent;
 use compare::{rounds, say};

@@ -1,6 +1,6 @@
-//! A fuzz target: any bytes are an image to check, a list of calls to replay, or a book with its ring and calls on it, and what the compiled
-//! functions do with them is held to `independent`. Every lent slice ends at a page that nobody may touch, or begins after one, so that a
-//! read past it is noticed too.
+//! A fuzz target: any bytes are an image to check, a list of calls to replay, or a book with its ring and calls on it, and
+//! what the compiled functions do with them is held to `independent`. Every lent slice ends at a page that nobody may touch,
+//! or begins after one, so that a read past it is noticed too.
 
 mod bytes;
 mod images;

@@ -1,4 +1,5 @@
-//! Memory between two pages that nobody may touch: a slice at its end or at its start cannot be read or written past that side.
+//! Memory between two pages that nobody may touch: a slice at its end or at its start cannot be read or written past that
+//! side.
 
 use std::ffi::{c_int, c_long, c_void};
 use std::ptr::{null_mut, NonNull};

@@ -1,5 +1,5 @@
-//! Bytes as a book, its ring and calls on them through the crate `guxhamole`, beside the independent book. Most arguments are the bytes'
-//! difference from a valid one, so that zeros are accepted.
+//! Bytes as a book, its ring and calls on them through the crate `guxhamole`, beside the independent book. Most arguments
+//! are the bytes' difference from a valid one, so that zeros are accepted.
 
 use crate::bytes::Bytes;
 use crate::pages::Pages;

@@ -1,5 +1,5 @@
-//! The fuzz target on a fixed number of inputs from fixed seeds: valid ones, mutated. GUXHAMOLE_FUZZ in the environment says another
-//! number. A difference prints the shortest input found by cutting.
+//! The fuzz target on a fixed number of inputs from fixed seeds: valid ones, mutated. GUXHAMOLE_FUZZ in the environment says
+//! another number. A difference prints the shortest input found by cutting.
 
 use compare::{cutting, say};
 use generator::{calls, images, lists, Random};
@@ -90,6 +90,19 @@ fn any_call(random: &mut Random, input: &mut Vec<u8>) {
     }
 }
 
+/// Numbers about which rules turn.
+const BOUNDS: [i64; 9] = [
+    i64::MIN,
+    -10_000_001,
+    -10_000_000,
+    -1,
+    0,
+    1,
+    10_000_000,
+    10_000_001,
+    i64::MAX,
+];
+
 /// Bytes changed, put in, left out, doubled, and pieces of another input.
 fn mutate(random: &mut Random, input: &mut Vec<u8>, other: &[u8]) {
     let place = random.below(input.len());
@@ -102,19 +115,7 @@ fn mutate(random: &mut Random, input: &mut Vec<u8>, other: &[u8]) {
             input.drain(place..end);
         }
         5 => {
-            let most = 10_000_000i64;
-            let menu = [
-                i64::MIN,
-                -most - 1,
-                -most,
-                -1,
-                0,
-                1,
-                most,
-                most + 1,
-                i64::MAX,
-            ];
-            let number = random.pick(&menu).to_le_bytes();
+            let number = random.pick(&BOUNDS).to_le_bytes();
             let width = random.pick(&[2, 4, 8]);
             let over = input.iter_mut().skip(place).take(width);
             over.zip(number).for_each(|(byte, new)| *byte = new);

@@ -1,5 +1,5 @@
-//! Weeks of entries for windows that turn round: sums that stay about the threshold, and regions that are priced by schedule for hours, so that
-//! periods begin and end.
+//! Weeks of entries for windows that turn round: sums that stay about the threshold, and regions that are priced by schedule
+//! for hours, so that periods begin and end.
 
 use crate::random::Random;
 use independent::ledger::Entry;

@@ -1,5 +1,5 @@
-//! "A book" as a host keeps it: the record with its 88 sums and marks, the ring, rule 10, and "One interval" over them. Any fields and any ring
-//! are allowed, also those that no list of calls leads to.
+//! "A book" as a host keeps it: the record with its 88 sums and marks, the ring, rule 10, and "One interval" over them. Any
+//! fields and any ring are allowed, also those that no list of calls leads to.
 
 use crate::checking::{entry_refusal, market_of};
 use crate::image::{self, Fields};

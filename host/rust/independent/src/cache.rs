@@ -1,5 +1,6 @@
-//! What the ledger recomputes from its history, remembered. The plain ledger is the definition, and a test of `compare` holds this form to it
-//! on small books. No window moves here either: a sum is the difference of two totals over all of a market's prices.
+//! What the ledger recomputes from its history, remembered. The plain ledger is the definition, and a test of `compare` holds
+//! this form to it on small books. No window moves here either: a sum is the difference of two totals over all of a market's
+//! prices.
 
 use crate::ledger::{Event, Start};
 use crate::rules::{Settings, Shape};
