@@ -1,7 +1,9 @@
 //! Makes a failing image or list of calls as short as cutting makes it.
 
+use crate::playing;
 use generator::images::mend_length;
 use generator::lists::{answer_length, List};
+use independent::{ledger, Call};
 use records::{Entry, Record};
 
 /// The shortest image found, by cutting bytes out and zeroing them, that still fails.
@@ -43,15 +45,21 @@ fn cut_out(image: &[u8], start: usize, width: usize) -> Vec<Vec<u8>> {
     vec![plain, mended]
 }
 
-/// The shortest list found, by cutting calls out and making entries plainer, that still fails.
-pub fn shortest_list(list: &List, fails: impl Fn(&List) -> bool) -> List {
-    let mut best = list.clone();
+/// What is left of something once parts are cut out, wide ones first, as long as it still fails. `cut_out` gives ways to leave out
+/// some of its parts from a place on.
+fn cut_down<L: Clone>(
+    whole: &L,
+    length: impl Fn(&L) -> usize,
+    cut_out: impl Fn(&L, usize, usize) -> Vec<L>,
+    fails: impl Fn(&L) -> bool,
+) -> L {
+    let mut best = whole.clone();
     loop {
-        let before = best.records.len();
+        let before = length(&best);
         for width in [64, 16, 4, 2, 1] {
             let mut start = 0;
-            while start < best.records.len() {
-                match calls_cut_out(&best, start, width)
+            while start < length(&best) {
+                match cut_out(&best, start, width)
                     .into_iter()
                     .find(|cut| fails(cut))
                 {
@@ -60,10 +68,16 @@ pub fn shortest_list(list: &List, fails: impl Fn(&List) -> bool) -> List {
                 }
             }
         }
-        if best.records.len() == before {
-            return plainer(best, fails);
+        if length(&best) == before {
+            return best;
         }
     }
+}
+
+/// The shortest list found, by cutting calls out and making entries plainer, that still fails.
+pub fn shortest_list(list: &List, fails: impl Fn(&List) -> bool) -> List {
+    let short = cut_down(list, |list| list.records.len(), calls_cut_out, &fails);
+    plainer(short, fails)
 }
 
 /// The list without some calls: the later entries' numbers lower by the entries cut out or as they were, the answers'
@@ -104,6 +118,46 @@ fn plainer(list: List, fails: impl Fn(&List) -> bool) -> List {
         for step in steps {
             let mut tried = best.clone();
             if let Record::Entry(entry) = &mut tried.records[place] {
+                step(entry);
+            }
+            if fails(&tried) {
+                best = tried;
+            }
+        }
+    }
+    best
+}
+
+/// The shortest typed list found, by cutting calls out and making entries plainer, that still fails.
+pub fn shortest_calls(
+    list: &playing::List,
+    fails: impl Fn(&playing::List) -> bool,
+) -> playing::List {
+    let without = |list: &playing::List, start: usize, width: usize| {
+        let end = (start + width).min(list.calls.len());
+        let mut plain = list.clone();
+        let cut = plain.calls.drain(start..end);
+        let entries = cut.filter(|call| matches!(call, Call::Entry(..))).count() as u32;
+        let mut mended = plain.clone();
+        for call in &mut mended.calls[start..] {
+            if let Call::Entry(entry, ..) = call {
+                entry.number = entry.number.wrapping_sub(entries);
+            }
+        }
+        vec![mended, plain]
+    };
+    let mut best = cut_down(list, |list| list.calls.len(), without, &fails);
+    let steps: [fn(&mut ledger::Entry); 5] = [
+        |entry| entry.schedule.fill(0),
+        |entry| entry.flows.fill(0),
+        |entry| entry.factors.fill(10_000),
+        |entry| entry.marks.fill(0),
+        |entry| entry.prices.fill(0),
+    ];
+    for place in 0..best.calls.len() {
+        for step in steps {
+            let mut tried = best.clone();
+            if let Call::Entry(entry, ..) = &mut tried.calls[place] {
                 step(entry);
             }
             if fails(&tried) {

@@ -2,7 +2,10 @@
 
 pub mod books;
 pub mod cutting;
+pub mod lent;
+pub mod playing;
 pub mod replay;
+pub mod typed;
 
 use std::io::Write;
 

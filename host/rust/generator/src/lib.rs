@@ -5,5 +5,6 @@ pub mod images;
 pub mod indexes;
 pub mod lists;
 pub mod random;
+pub mod weeks;
 
 pub use random::Random;

@@ -67,8 +67,8 @@ pub fn ample(opening: &Opening) -> Lent {
     }
 }
 
-/// An opening as a record of its fields' widths can say it.
-fn narrowed(opening: &Opening) -> Opening {
+/// An opening as a record of its fields' widths can say it, and the C face's settings.
+pub fn narrowed(opening: &Opening) -> Opening {
     Opening {
         regions: opening.regions & 0xFF,
         services: opening.services & 0xFF,

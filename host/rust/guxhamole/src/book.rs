@@ -28,8 +28,8 @@ pub struct Settings {
 }
 
 impl Settings {
-    /// "The real market has R 5, S 10, W 2,016, H 48"; the regions linked as a chain with two ends at region 2, a threshold of
-    /// 1,823,600 dollars, limits of ±600 dollars.
+    /// "The real market has R 5, S 10, W 2,016, H 48". Regions 1 and 2 are linked to 0, and 3 and 4 to 2; the threshold is
+    /// 1,823,600 dollars, the limits ±600 dollars.
     pub const REAL_MARKET: Settings = Settings {
         regions: 5,
         services: 10,

@@ -16,7 +16,7 @@
 //!   book and ring that the load left.
 //!
 //! A host that breaks these rules still has safe calls: a damaged book is refused by 10, a ring that isn't the book's by 22 when
-//! it is stored, a damaged image by 24 to 27 or 16. What isn't damaged in form, such as an older copy, is not noticed.
+//! it is stored, a damaged image by 24 to 27 or 16. What keeps its form, such as an older copy, may go unnoticed.
 //!
 //! # An interval
 //!

@@ -1,5 +1,6 @@
-//! The C face one to one: its structs, and each function over slices. A host needs [`crate::Book`] and the functions beside it; this is
-//! for tests, which set a book's fields one by one and look at the zeros of a refused answer. The one place with `unsafe`.
+//! The C face one to one: its structs, and each function over slices. A host needs [`crate::Book`] and the functions beside
+//! it; this is for tests, which set a book's fields one by one and look at the zeros of a refused answer. The one place with
+//! `unsafe`.
 
 use crate::BOOK_LENGTH;
 use core::mem::{offset_of, size_of};
@@ -98,10 +99,13 @@ pub struct Rows {
 const _: () = {
     assert!(size_of::<usize>() == 8);
     assert!(size_of::<Settings>() == 32);
-    assert!(offset_of!(Settings, first) == 6 && offset_of!(Settings, parents) == 8);
-    assert!(offset_of!(Settings, threshold) == 16 && offset_of!(Settings, cap) == 24);
+    assert!(offset_of!(Settings, services) == 1 && offset_of!(Settings, window) == 2);
+    assert!(offset_of!(Settings, halves) == 4 && offset_of!(Settings, first) == 6);
+    assert!(offset_of!(Settings, parents) == 8 && offset_of!(Settings, threshold) == 16);
+    assert!(offset_of!(Settings, cap) == 24 && offset_of!(Settings, floor) == 28);
     assert!(size_of::<Book>() == BOOK_LENGTH);
-    assert!(offset_of!(Book, window) == 2 && offset_of!(Book, parents) == 5);
+    assert!(offset_of!(Book, services) == 1 && offset_of!(Book, window) == 2);
+    assert!(offset_of!(Book, halves) == 4 && offset_of!(Book, parents) == 5);
     assert!(offset_of!(Book, threshold) == 16 && offset_of!(Book, cap) == 24);
     assert!(offset_of!(Book, floor) == 28 && offset_of!(Book, entries) == 32);
     assert!(offset_of!(Book, position) == 36 && offset_of!(Book, counts) == 38);
@@ -110,9 +114,12 @@ const _: () = {
     assert!(size_of::<Kept>() == 880 && offset_of!(Kept, number) == 864);
     assert!(offset_of!(Kept, place) == 872);
     assert!(size_of::<Entered>() == 888 && offset_of!(Entered, count) == 880);
+    assert!(offset_of!(Entered, number) == 864 && offset_of!(Entered, place) == 872);
     assert!(size_of::<Reading>() == 24 && offset_of!(Reading, sum) == 16);
+    assert!(offset_of!(Reading, counted) == 4 && offset_of!(Reading, mark) == 8);
     assert!(size_of::<Stored>() == 16 && offset_of!(Stored, length) == 8);
-    assert!(size_of::<Rows>() == 400 && offset_of!(Rows, weekend) == 208);
+    assert!(size_of::<Rows>() == 400 && offset_of!(Rows, place) == 8);
+    assert!(offset_of!(Rows, weekday) == 16 && offset_of!(Rows, weekend) == 208);
 };
 
 impl Book {

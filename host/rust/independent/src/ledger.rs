@@ -1,6 +1,8 @@
 //! "The ledger machine": the settings of opening and, in order, the accepted entries and settings. No sum, count, next
-//! place, position or period is kept.
+//! place, position or period is kept, unless a ledger is asked to remember what it would recompute.
 
+use crate::cache::Cache;
+use crate::checking::{entry_refusal, market_of};
 use crate::image;
 use crate::publishing::{publish, Published};
 use crate::rules::*;
@@ -19,7 +21,7 @@ pub struct Entry {
 
 /// An accepted entry or setting.
 #[derive(Clone, Debug, PartialEq, Eq)]
-enum Event {
+pub(crate) enum Event {
     Entry(Entry),
     Threshold(i64),
     Limits(i32, i32),
@@ -48,12 +50,13 @@ pub struct Report {
     pub entries: u32,
 }
 
-/// The ledger: the whole history and nothing else.
+/// The ledger: the whole history and nothing else. A cached one has the answers that the history would give in its place.
 #[derive(Clone, Debug, PartialEq, Eq)]
 pub struct Ledger {
     shape: Shape,
     start: Start,
     history: Vec<Event>,
+    cache: Option<Cache>,
 }
 
 impl Ledger {
@@ -95,6 +98,25 @@ impl Ledger {
             shape,
             start,
             history: Vec::new(),
+            cache: None,
+        }
+    }
+
+    /// This ledger with a cache: it answers alike, in a time that does not grow with the history.
+    pub fn cached(mut self) -> Ledger {
+        let mut cache = Cache::new(&self.start);
+        for event in self.history.drain(..) {
+            cache.note(&self.shape, &event);
+        }
+        self.cache = Some(cache);
+        self
+    }
+
+    /// An accepted entry or setting joins the history.
+    fn note(&mut self, event: Event) {
+        match &mut self.cache {
+            Some(cache) => cache.note(&self.shape, &event),
+            None => self.history.push(event),
         }
     }
 
@@ -104,20 +126,64 @@ impl Ledger {
 
     /// "Entries number from 0": as many as were taken.
     pub fn entries_taken(&self) -> u32 {
-        let past = self.past();
-        self.start.entries + past.entries.len() as u32
+        self.start.entries + self.entries_since() as u32
+    }
+
+    /// Entries taken since the start.
+    fn entries_since(&self) -> usize {
+        match &self.cache {
+            Some(cache) => cache.entries(),
+            None => self.past().entries.len(),
+        }
     }
 
     /// The settings at the next entry: "those last set before it, by opening at first".
     pub fn settings(&self) -> Settings {
-        let past = self.past();
-        past.settings[past.entries.len()]
+        match &self.cache {
+            Some(cache) => cache.settings(),
+            None => {
+                let past = self.past();
+                past.settings[past.entries.len()]
+            }
+        }
     }
 
     /// The next entry's position.
     pub fn position(&self) -> usize {
-        let past = self.past();
-        past.position(past.entries.len())
+        position(&self.shape, &self.start, self.entries_since())
+    }
+
+    /// A market's counted prices after the last entry, oldest first.
+    pub fn counted(&self, region: usize, market: usize) -> Vec<i32> {
+        match &self.cache {
+            Some(cache) => cache.counted(&self.shape, region, market).to_vec(),
+            None => {
+                let past = self.past();
+                past.counted_before(region, market, past.entries.len())
+            }
+        }
+    }
+
+    /// A market's sum after the last entry.
+    fn sum(&self, region: usize, market: usize) -> i128 {
+        match &self.cache {
+            Some(cache) => cache.sum(&self.shape, region, market),
+            None => {
+                let past = self.past();
+                past.sum_before(region, market, past.entries.len())
+            }
+        }
+    }
+
+    /// Whether a market is administered at the next entry.
+    fn administered(&self, region: usize, market: usize) -> bool {
+        match &self.cache {
+            Some(cache) => cache.administered(&self.shape, region, market),
+            None => {
+                let past = self.past();
+                past.administered(region, market, past.entries.len())
+            }
+        }
     }
 
     /// The entry: its refusals in order, then publishing by steps 1 to 4 into the lent table. Answers the count.
@@ -127,64 +193,27 @@ impl Ledger {
         entry: Entry,
         table: &mut [i32],
     ) -> Result<u32, Refusal> {
-        self.entry_refusal(ring_length, &entry, table.len())?;
+        let taken = self.entries_taken();
+        entry_refusal(&self.shape, taken, &entry, ring_length, table.len())?;
         let published = self.published(&entry);
         table.copy_from_slice(&published.table);
-        self.history.push(Event::Entry(entry));
+        self.note(Event::Entry(entry));
         Ok(published.count)
-    }
-
-    /// "Entry: 10; 11 any slice's length (schedule R × M × 2 × H); 12, 10,000,000 entries taken; 13 number not the next;
-    /// 14 kind; 15 mark not 0 or 1; 16 an unmarked region's energy beyond ±10,000,000 or service outside 0..10,000,000;
-    /// 17 a factor out of range where the region has a parent. 15 to 17 give the first place in the lent slice".
-    fn entry_refusal(
-        &self,
-        ring_length: usize,
-        entry: &Entry,
-        table_length: usize,
-    ) -> Result<(), Refusal> {
-        let shape = &self.shape;
-        let lengths_right = ring_length == shape.ring()
-            && entry.prices.len() == shape.prices()
-            && entry.marks.len() == shape.regions
-            && entry.flows.len() == shape.regions
-            && entry.factors.len() == shape.regions
-            && entry.schedule.len() == shape.schedule()
-            && table_length == shape.prices();
-        unless(lengths_right, 11)?;
-        let taken = self.entries_taken();
-        unless(taken < MOST_ENTRIES, 12)?;
-        unless(entry.number == taken, 13)?;
-        unless(entry.kind <= 1, 14)?;
-        if let Some(region) = entry.marks.iter().position(|&mark| mark > 1) {
-            return Err(refusal_at(15, region));
-        }
-        for region in 0..shape.regions {
-            for market in 0..shape.markets() {
-                let place = shape.place(region, market);
-                if entry.marks[region] == 0 && !price_allowed(market == 0, entry.prices[place]) {
-                    return Err(refusal_at(16, place));
-                }
-            }
-        }
-        for region in 0..shape.regions {
-            let in_range = (10_000..=20_000).contains(&entry.factors[region]);
-            if shape.parent(region).is_some() && !in_range {
-                return Err(refusal_at(17, region));
-            }
-        }
-        Ok(())
     }
 
     /// "An entry publishes by steps 1 to 4".
     fn published(&self, entry: &Entry) -> Published {
-        let past = self.past();
-        let next = past.entries.len();
+        let mut administered = Vec::new();
+        for region in 0..self.shape.regions {
+            for market in 0..self.shape.markets() {
+                administered.push(self.administered(region, market));
+            }
+        }
         publish(
             &self.shape,
-            &past.settings[next],
-            past.position(next),
-            &past.all_administered(next),
+            &self.settings(),
+            self.position(),
+            &administered,
             entry,
         )
     }
@@ -192,30 +221,25 @@ impl Ledger {
     /// "Settings: 10; 18 or 19."
     pub fn set_threshold(&mut self, threshold: i64) -> Result<(), Refusal> {
         unless(threshold_allowed(threshold.into()), 18)?;
-        self.history.push(Event::Threshold(threshold));
+        self.note(Event::Threshold(threshold));
         Ok(())
     }
 
     /// "Settings: 10; 18 or 19."
     pub fn set_limits(&mut self, cap: i32, floor: i32) -> Result<(), Refusal> {
         unless(limits_allowed(cap, floor), 19)?;
-        self.history.push(Event::Limits(cap, floor));
+        self.note(Event::Limits(cap, floor));
         Ok(())
     }
 
     /// "A report gives sum and prices counted after the last entry (0 before the first), mark 1 if administered at the
     /// next and else 0, and how many entries were accepted." "Report: 10; 21 region or market."
     pub fn report(&self, region: u32, market: u32) -> Result<Report, Refusal> {
-        let known =
-            (region as usize) < self.shape.regions && (market as usize) < self.shape.markets();
-        unless(known, 21)?;
-        let (region, market) = (region as usize, market as usize);
-        let past = self.past();
-        let next = past.entries.len();
+        let (region, market) = market_of(&self.shape, region, market)?;
         Ok(Report {
-            sum: past.sum_before(region, market, next) as i64,
-            counted: past.counted_before(region, market, next).len() as u32,
-            mark: past.administered(region, market, next).into(),
+            sum: self.sum(region, market) as i64,
+            counted: self.counted(region, market).len() as u32,
+            mark: self.administered(region, market).into(),
             entries: self.entries_taken(),
         })
     }
@@ -238,10 +262,8 @@ impl Ledger {
 
     /// "The image", written from the history.
     pub fn image(&self) -> Vec<u8> {
-        let past = self.past();
-        let next = past.entries.len();
         let shape = &self.shape;
-        let settings = past.settings[next];
+        let settings = self.settings();
         let mut fields = image::Fields {
             regions: shape.regions as u8,
             services: shape.services as u8,
@@ -249,7 +271,7 @@ impl Ledger {
             halves: shape.halves as u8,
             parents: shape.parents,
             entries: self.entries_taken(),
-            position: past.position(next) as u16,
+            position: self.position() as u16,
             threshold: settings.threshold,
             cap: settings.cap,
             floor: settings.floor,
@@ -258,12 +280,11 @@ impl Ledger {
             prices: Vec::new(),
         };
         for region in 0..shape.regions {
-            fields.counts[region] = past.counted_before(region, 0, next).len() as u16;
+            fields.counts[region] = self.counted(region, 0).len() as u16;
             for market in 0..shape.markets() {
-                let administered = past.administered(region, market, next);
+                let administered = self.administered(region, market);
                 fields.periods[11 * region + market] = administered.into();
-                let counted = past.counted_before(region, market, next);
-                fields.prices.extend(counted);
+                fields.prices.extend(self.counted(region, market));
             }
         }
         fields.bytes()
@@ -322,9 +343,9 @@ impl Ledger {
     }
 }
 
-/// "19 cap or floor"
-fn limits_allowed(cap: i32, floor: i32) -> bool {
-    cap_allowed(cap.into()) && floor_allowed(floor.into())
+/// "Accepted entry t, from 0 up, has position (first position + t) mod D."
+fn position(shape: &Shape, start: &Start, t: usize) -> usize {
+    (start.position + t) % shape.day()
 }
 
 /// A ledger's history as one question sees it. Entry t is counted from the start of the history.
@@ -336,11 +357,6 @@ struct Past<'a> {
 }
 
 impl Past<'_> {
-    /// "Accepted entry t, from 0 up, has position (first position + t) mod D."
-    fn position(&self, t: usize) -> usize {
-        (self.ledger.start.position + t) % self.ledger.shape.day()
-    }
-
     /// "the market's last W entry prices up to t at which its region was unmarked, or all if fewer", oldest first;
     /// here of the entries before t.
     fn counted_before(&self, region: usize, market: usize, t: usize) -> Vec<i32> {
@@ -369,7 +385,8 @@ impl Past<'_> {
 
     /// "at position D−1 it releases a market that it doesn't trigger"
     fn releases(&self, region: usize, market: usize, t: usize) -> bool {
-        self.position(t) == self.ledger.shape.day() - 1 && !self.triggers(region, market, t)
+        let Ledger { shape, start, .. } = self.ledger;
+        position(shape, start, t) == shape.day() - 1 && !self.triggers(region, market, t)
     }
 
     /// "A market is administered at t exactly when some j < t triggers it and no i with j ≤ i < t releases it." An image
@@ -380,17 +397,5 @@ impl Past<'_> {
         let at_start = self.ledger.start.administered[self.ledger.shape.place(region, market)];
         (at_start && !(0..t).any(|i| release[i]))
             || (0..t).any(|j| trigger[j] && !(j..t).any(|i| release[i]))
-    }
-
-    /// Every market's, region by region.
-    fn all_administered(&self, t: usize) -> Vec<bool> {
-        let shape = &self.ledger.shape;
-        let mut all = Vec::new();
-        for region in 0..shape.regions {
-            for market in 0..shape.markets() {
-                all.push(self.administered(region, market, t));
-            }
-        }
-        all
     }
 }

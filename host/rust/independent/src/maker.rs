@@ -28,8 +28,7 @@ pub fn make(making: &Making) -> Result<Rows, Refusal> {
     unless(prices.len() == 28 * day && kinds.len() == 28, 31)?;
     unless(kinds.iter().all(|&kind| kind <= 1), 32)?;
     unless(kinds.contains(&0) && kinds.contains(&1), 32)?;
-    let limits_allowed = cap_allowed(making.cap.into()) && floor_allowed(making.floor.into());
-    unless(limits_allowed, 19)?;
+    unless(limits_allowed(making.cap, making.floor), 19)?;
     let bad = |&price: &i32| !price_allowed(making.energy, price);
     if let Some(place) = prices.iter().position(bad) {
         return Err(refusal_at(16, place));

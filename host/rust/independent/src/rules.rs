@@ -158,6 +158,11 @@ pub fn floor_allowed(floor: i128) -> bool {
     (-10_000_000..=-1).contains(&floor)
 }
 
+/// "19 cap or floor"
+pub fn limits_allowed(cap: i32, floor: i32) -> bool {
+    cap_allowed(cap.into()) && floor_allowed(floor.into())
+}
+
 /// "energy beyond ±10,000,000 or service outside 0..10,000,000". "Market 0 is energy".
 pub fn price_allowed(is_energy: bool, price: i32) -> bool {
     if is_energy {

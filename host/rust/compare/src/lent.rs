@@ -1,0 +1,71 @@
+//! Memory that is lent to a compiled function, with guards before and behind it.
+
+/// What guards, and memory that is not yet written to, hold.
+pub trait Fill: Copy + PartialEq {
+    const FILL: Self;
+}
+
+impl Fill for u8 {
+    const FILL: u8 = 0xA5;
+}
+
+impl Fill for i32 {
+    const FILL: i32 = 0x5A5A_5A5A;
+}
+
+impl Fill for u32 {
+    const FILL: u32 = 0x5A5A_5A5A;
+}
+
+/// How much memory stands on either side, to see that nothing is written there.
+const GUARD: usize = 8;
+
+/// A slice to lend.
+#[derive(Clone)]
+pub struct Lent<T> {
+    memory: Vec<T>,
+}
+
+impl<T: Fill> Lent<T> {
+    /// A slice of these contents.
+    pub fn of(contents: &[T]) -> Lent<T> {
+        let guard = [T::FILL; GUARD];
+        Lent {
+            memory: [&guard, contents, &guard].concat(),
+        }
+    }
+
+    /// A slice of a length.
+    pub fn filled(length: usize) -> Lent<T> {
+        Lent {
+            memory: vec![T::FILL; length + 2 * GUARD],
+        }
+    }
+
+    pub fn slice(&self) -> &[T] {
+        &self.memory[GUARD..self.memory.len() - GUARD]
+    }
+
+    pub fn slice_mut(&mut self) -> &mut [T] {
+        let end = self.memory.len() - GUARD;
+        &mut self.memory[GUARD..end]
+    }
+
+    /// Whether the slice holds what is expected, then places as they were filled, and the guards stand.
+    pub fn holds(&self, expected: &[T]) -> bool {
+        self.slice().starts_with(expected)
+            && self.slice()[expected.len()..].iter().all(is_fill)
+            && self.guarded()
+    }
+
+    /// Whether the guards stand.
+    pub fn guarded(&self) -> bool {
+        let (before, rest) = self.memory.split_at(GUARD);
+        let behind = &rest[rest.len() - GUARD..];
+        before.iter().chain(behind).all(is_fill)
+    }
+}
+
+fn is_fill<T: Fill>(place: &T) -> bool {
+    *place == T::FILL
+}

@@ -1,0 +1,183 @@
+//! The fuzz target on a fixed number of inputs from fixed seeds: valid ones, mutated. GUXHAMOLE_FUZZ in the environment says
+//! another number. A difference prints the shortest input found by cutting.
+
+use compare::{cutting, say};
+use generator::{calls, images, lists, Random};
+use guxhamole::Book;
+use independent::image::Fields;
+use std::collections::BTreeMap;
+use std::panic::catch_unwind;
+
+/// Inputs of a gate's run.
+const RUNS: u64 = 120_000;
+
+fn runs() -> u64 {
+    match std::env::var("GUXHAMOLE_FUZZ") {
+        Ok(runs) => runs.parse().expect("GUXHAMOLE_FUZZ: a number of runs"),
+        Err(_) => RUNS,
+    }
+}
+
+/// An image that a list leads to or one of any fields.
+fn image(random: &mut Random) -> Vec<u8> {
+    if random.chance(50) {
+        images::listed(random)
+    } else {
+        images::composed(random)
+    }
+}
+
+/// An input that is not yet mutated, for each of the three targets.
+fn seed(random: &mut Random) -> Vec<u8> {
+    match random.below(4) {
+        0 => [vec![0], image(random)].concat(),
+        1 => {
+            let length = random.below(12);
+            let list = lists::list(random, length);
+            [vec![1; 9], records::bytes(&list.records)].concat()
+        }
+        _ => typed(random),
+    }
+}
+
+/// A book of bytes, an opening or an image, then calls of random bytes; mostly zeros, which make valid ones.
+fn typed(random: &mut Random) -> Vec<u8> {
+    let mut input = vec![2, random.below(2) as u8];
+    match random.below(3) {
+        0 => {
+            let image = image(random);
+            let mut ring = vec![0; Fields::read(&image).shape().ring()];
+            let book = Book::load(&image, &mut ring).expect("a valid image");
+            input.push(0);
+            input.extend(book.to_bytes());
+            input.push(0);
+            let few = &ring[..ring.len().min(63)];
+            input.push(few.len() as u8);
+            input.extend(few.iter().flat_map(|price| price.to_le_bytes()));
+        }
+        1 => {
+            let opening = lists::opening_record(&calls::opening(random));
+            let record = records::Record::Opening(opening).bytes();
+            input.push(1);
+            input.extend(&record[6..11]);
+            input.extend(&record[12..]);
+            input.push(0);
+        }
+        _ => {
+            let mut image = image(random);
+            image.truncate(60_000);
+            input.push(2);
+            input.extend((image.len() as u16).to_le_bytes());
+            input.extend(image);
+            input.push(0);
+        }
+    }
+    for _ in 0..random.below(8) {
+        any_call(random, &mut input);
+    }
+    input
+}
+
+/// One call's bytes: its kind, then numbers that are small, wild or none.
+fn any_call(random: &mut Random, input: &mut Vec<u8>) {
+    input.push(random.below(12) as u8);
+    for _ in 0..random.below(60) {
+        input.push(match random.below(8) {
+            0 => random.word() as u8,
+            1 => random.pick(&[1, 127, 128, 191, 192, 255]),
+            _ => 0,
+        });
+    }
+}
+
+/// Numbers about which rules turn.
+const BOUNDS: [i64; 9] = [
+    i64::MIN,
+    -10_000_001,
+    -10_000_000,
+    -1,
+    0,
+    1,
+    10_000_000,
+    10_000_001,
+    i64::MAX,
+];
+
+/// Bytes changed, put in, left out, doubled, and pieces of another input.
+fn mutate(random: &mut Random, input: &mut Vec<u8>, other: &[u8]) {
+    let place = random.below(input.len());
+    match random.below(8) {
+        0 | 1 => input[place] ^= 1 << random.below(8),
+        2 => input[place] = random.pick(&[0, 1, 2, 7, 8, 9, 10, 11, 127, 128, 255]),
+        3 => input.insert(place, random.word() as u8),
+        4 => {
+            let end = input.len().min(place + 1 + random.below(8));
+            input.drain(place..end);
+        }
+        5 => {
+            let number = random.pick(&BOUNDS).to_le_bytes();
+            let width = random.pick(&[2, 4, 8]);
+            let over = input.iter_mut().skip(place).take(width);
+            over.zip(number).for_each(|(byte, new)| *byte = new);
+        }
+        6 => {
+            let end = input.len().min(place + 1 + random.below(40));
+            input.extend_from_within(place..end);
+        }
+        _ => {
+            let from = random.below(other.len());
+            input.truncate(place.max(1));
+            input.extend(&other[from..]);
+        }
+    }
+    if input.is_empty() {
+        input.push(0);
+    }
+}
+
+/// Runs an input; a difference prints the shortest one that shows one.
+fn checked(input: &[u8]) -> fuzz::Met {
+    let fails = |input: &[u8]| catch_unwind(|| fuzz::run(input)).is_err();
+    match catch_unwind(|| fuzz::run(input)) {
+        Ok(met) => met,
+        Err(_) => {
+            let short = cutting::shortest(input, fails);
+            panic!("fuzz: a difference; the shortest input found: {short:02x?}");
+        }
+    }
+}
+
+#[test]
+fn bounded() {
+    let mut met: BTreeMap<(&'static str, u32), u64> = BTreeMap::new();
+    let mut random = Random::new(0x30_0000);
+    let mut other = seed(&mut random);
+    for _ in 0..runs() {
+        let mut input = seed(&mut random);
+        for _ in 0..random.pick(&[0, 1, 1, 2, 4, 16]) {
+            mutate(&mut random, &mut input, &other);
+        }
+        for answer in checked(&input) {
+            *met.entry(answer).or_default() += 1;
+        }
+        other = input;
+    }
+    say(&format!("fuzz: {} runs, met {met:?}", runs()));
+    if runs() >= RUNS {
+        let starts = [("check", 0), ("load", 0), ("opening", 0), ("replay", 1)];
+        let entries = [0, 10, 11, 12, 13, 14, 15, 16, 17].map(|number| ("entry", number));
+        let restarts = [0, 10, 11, 22, 23].map(|number| ("restart", number));
+        let settings = [
+            ("threshold", 0),
+            ("threshold", 18),
+            ("limits", 0),
+            ("limits", 19),
+        ];
+        let others = [("report", 0), ("schedule", 0), ("text and index", 0)];
+        let all = [&starts[..], &entries, &restarts, &settings, &others];
+        for answer in all.concat() {
+            let times = met.get(&answer).copied().unwrap_or(0);
+            assert!(times >= 50, "{answer:?} met {times} times");
+        }
+    }
+}
