@@ -5,8 +5,8 @@ ghost use lib.ListN.{length};
 ghost use lib.Seq.{sets};
 ghost use mir.Syntax.{w32, w64};
 ghost use mir.Val.{ofZ, toZ};
-ghost use Rattle.laws.specs.Bytes.{le, numberAt};
-ghost use Rattle.laws.specs.Lists.{tabulate};
+ghost use Rattle.laws.specs.Bytes.{le, numberAt, words};
+ghost use Rattle.laws.specs.Lists.{tabulate, placesOf};
 
 // The number in `width` bytes from a place.
 pub fn get(bytes: &[u8], at: usize, width: usize) -> u64
@@ -149,4 +149,29 @@ pub fn put_word(bytes: &mut [u8], at: usize, z: i32)
     bytes[at + 1] = (x / 256 % 256) as u8;
     bytes[at + 2] = (x / 65536 % 256) as u8;
     bytes[at + 3] = (x / 16777216 % 256) as u8;
+}
+
+// `n` signed numbers from place `from` of `numbers` on, put from `at`, four bytes each.
+pub fn put_words(bytes: &mut [u8], at: usize, numbers: &[i32], from: usize, n: usize)
+    requires { ⌜ (from + n ≤ length (now numbers)) × (at + 4 * n ≤ length (now bytes)) ⌝ }
+    ensures { λ _. ⌜ now (bytes .exit) ≡ sets (now (bytes .entry)) at (words (placesOf (now (numbers .entry)) from n)) ⌝ }
+{
+    let mut i: usize = 0;
+    while i < n {
+        put_word(bytes, at + 4 * i, numbers[from + i]);
+        i += 1;
+    }
+}
+
+// `n` numbers from `at`, four bytes each, put into `numbers` from `to`.
+pub fn get_numbers(bytes: &[u8], at: usize, n: usize, numbers: &mut [u32], to: usize)
+    requires { ⌜ (at + 4 * n ≤ length (now bytes)) × (to + n ≤ length (now numbers)) ⌝ }
+    ensures { λ _. ⌜ now (numbers .exit) ≡ sets (now (numbers .entry)) to (tabulate n (λ i. numberAt (now (bytes .entry)) (at + 4 * i) 4)) ⌝ }
+{
+    let mut i: usize = 0;
+    while i < n {
+        let number = get_u32(bytes, at + 4 * i);
+        numbers[to + i] = number;
+        i += 1;
+    }
 }

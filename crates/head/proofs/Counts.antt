@@ -2,7 +2,7 @@
 use mathlib.Core.Path.{_≡_, refl}
 use Prim.Native.Nat.{ℕ, zero, suc, _+_, _-_, _<_, _≤_}
 use native.Mathlib.Omega.{arith}
-use Rattle.head.specs.Counted.{sumFrom}
+use Rattle.laws.specs.Lists.{sumFrom}
 
 module _ (f : ℕ → ℕ) where
   sum-one : (n q : ℕ) → sumFrom (suc n) q f ≡ f q + sumFrom n (suc q) f

@@ -8,9 +8,9 @@ use mir.Syntax.{w32, w64}
 use mir.Val.{ofZ}
 use Rattle.laws.specs.Bytes.{numberAt, decode, sizeOf}
 use Rattle.laws.proofs.Fields.{decode-at}
+use Rattle.laws.proofs.Joined.{at-left, at-right}
 use Rattle.book.specs.declared.record.Book.{Book}
 use Rattle.head.specs.Layout.{widths, headSize, firsts, seconds, values}
-use Rattle.head.proofs.Lists.{at-left, at-right}
 
 pub widths-length : length widths ≡ 117
 unfolding widths

@@ -1,23 +1,13 @@
 -- The counted prices of a book: in the ring, oldest first. Assumes nothing.
-use mathlib.Core.List.{List, [], _++_}
-use Prim.Native.Nat.{ℕ, zero, suc, _+_, _-_, _*_, _/_}
+use mathlib.Core.List.{List}
+use Prim.Native.Nat.{ℕ, _+_, _-_, _*_, _/_}
 use lib.Dec.{ltb}
 use lib.IntN.{ℤ, pos}
 use lib.ListN.{getD}
 use Rattle.laws.specs.Base.{pick}
-use Rattle.laws.specs.Lists.{tabulate}
+use Rattle.laws.specs.Lists.{tabulate, joined, sumFrom}
 use Rattle.book.specs.declared.record.Book.{Book}
 use Rattle.book.specs.Record.{marketsOf, tableSize}
-
--- f i ++ f (i + 1) ++ .. : n of them
-unfoldable pub joined {ℓ} : {A : Type ℓ} → ℕ → ℕ → (ℕ → List A) → List A
-joined zero i f = []
-joined (suc n) i f = f i ++ joined n (suc i) f
-
--- f i + f (i + 1) + .. : n of them
-unfoldable pub sumFrom : ℕ → ℕ → (ℕ → ℕ) → ℕ
-sumFrom zero i f = 0
-sumFrom (suc n) i f = f i + sumFrom n (suc i) f
 
 -- the markets of a book are numbered q = region × M + market: how many there are, and the count of q's region
 abbrev pub marketCount : Book → ℕ

@@ -9,7 +9,7 @@ use mir.Syntax.{w32, w64}
 use mir.Val.{ofZ, toZ}
 use Rattle.laws.specs.Base.{pick}
 use Rattle.laws.specs.Lists.{tabulate}
-use Rattle.laws.specs.Bytes.{le, encode, decode}
+use Rattle.laws.specs.Bytes.{encode, decode, words}
 use Rattle.book.specs.declared.record.Book.{Book}
 use Rattle.head.specs.Counted.{counted, howMany}
 
@@ -50,11 +50,6 @@ seconds b = b .entries ∷ b .position ∷ 0 ∷ ofZ w64 (b .threshold) ∷ ofZ 
 
 unfoldable pub values : ℕ → Book → List ℕ
 values n b = firsts n b ++ (b .parents ++ (seconds b ++ (b .counts ++ b .marks)))
-
--- prices, "4 bytes each"
-unfoldable pub words : List ℤ → List ℕ
-words [] = []
-words (z ∷ zs) = le 4 (ofZ w32 z) ++ words zs
 
 -- the whole image of a book and its ring
 unfoldable pub imageOf : Book → List ℤ → List ℕ

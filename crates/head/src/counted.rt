@@ -5,7 +5,8 @@ ghost use Prim.Native.Nat.{_≤_};
 ghost use lib.Dec.{ltb};
 ghost use lib.ListN.{getD};
 ghost use Rattle.laws.specs.Base.{pick};
-ghost use Rattle.head.specs.Counted.{sumFrom, howMany};
+ghost use Rattle.laws.specs.Lists.{sumFrom};
+ghost use Rattle.head.specs.Counted.{howMany};
 
 // Where the oldest price of a window stands.
 pub fn oldest(window: u16, count: u16, next: u16) -> u16

@@ -9,19 +9,19 @@ use lib.IntN.{ℤ, pos}
 use lib.ListN.{length, getD, take, replicate, getD-replicate}
 use lib.Seq.{ext-getD}
 use Rattle.laws.specs.Lists.{total}
-use Rattle.laws.specs.Bytes.{numberAt, encode, decode, sizeOf}
+use Rattle.laws.specs.Bytes.{numberAt, encode, decode, sizeOf, words, priceAt}
 use Rattle.laws.proofs.Tests.{lt-or-ge}
 use Rattle.laws.proofs.Lists.{length-run, tabulate-same}
 use Rattle.laws.proofs.Fields.{decode-encode}
+use Rattle.laws.proofs.Joined.{sum-below, tabulate-list, joined-same, joined-at}
+use Rattle.laws.proofs.Words.{price-back}
 use Rattle.pricing.specs.Holding.{isEnergy}
 use Rattle.book.specs.declared.record.Book.{Book}
 use Rattle.book.specs.Record.{marketsOf, ringSize}
 use Rattle.book.proofs.Validities.{Valid}
 use Rattle.head.specs.Counted.{marketCount, countAt, inOrder, counted, howMany}
-use Rattle.head.specs.Layout.{widths, lengthOf, firsts, seconds, values, words, imageOf, bookOf, headFrom}
-use Rattle.image.specs.Loading.{priceAt, firstBad, bookFrom, ringFrom}
-use Rattle.head.proofs.Lists.{sum-below, tabulate-list, joined-same, joined-at}
-use Rattle.image.proofs.Words.{price-back}
+use Rattle.head.specs.Layout.{widths, lengthOf, firsts, seconds, values, imageOf, bookOf, headFrom}
+use Rattle.image.specs.Loading.{firstBad, bookFrom, ringFrom}
 use Rattle.image.proofs.Readings.{before, start, pricesAt, padded, none-bad-whole}
 use Rattle.image.proofs.Markets.{price-fits, marketAt, at-below, at-place, prices-are, placed, placed-length, placed-used, placed-unused}
 use Rattle.head.proofs.Heads.{field-at, value-first, value-second}

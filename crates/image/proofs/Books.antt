@@ -10,9 +10,9 @@ use mir.Syntax.{w32, w64}
 use mir.Val.{SFits, Fits, ofZ, toZ}
 use mir.Facts.{toZ-ofZ, ofZ-toZ}
 use Rattle.laws.specs.Lists.{run, tabulate}
+use Rattle.laws.proofs.Joined.{take-run}
 use Rattle.book.specs.declared.record.Book.{Book}
 use Rattle.head.specs.Layout.{firsts, seconds, values, nextOf, bookOf}
-use Rattle.head.proofs.Lists.{take-run}
 use Rattle.head.proofs.Heads.{seconds-length, value-first, value-second}
 
 -- the book as loading leaves it: "Loading puts the oldest at the window's first place", and these sums

@@ -4,15 +4,15 @@ use mathlib.Core.List.{List}
 use native.Mathlib.Omega.{arith}
 use lib.IntN.{ℤ}
 use lib.ListN.{length, length-append}
-use Rattle.laws.specs.Bytes.{encode}
+use Rattle.laws.specs.Bytes.{encode, words}
 use Rattle.laws.proofs.Lists.{length-run}
 use Rattle.laws.proofs.Fields.{length-encode}
+use Rattle.laws.proofs.Joined.{length-joined}
+use Rattle.laws.proofs.Words.{length-words}
 use Rattle.book.specs.declared.record.Book.{Book}
 use Rattle.book.proofs.Validities.{Valid}
 use Rattle.head.specs.Counted.{marketCount, countAt, inOrder, counted}
-use Rattle.head.specs.Layout.{widths, headSize, lengthOf, values, words, imageOf}
-use Rattle.head.proofs.Lists.{length-joined}
-use Rattle.image.proofs.Words.{length-words}
+use Rattle.head.specs.Layout.{widths, headSize, lengthOf, values, imageOf}
 use Rattle.image.proofs.Readings.{before}
 use Rattle.image.proofs.Markets.{prices-are}
 use Rattle.head.proofs.Heads.{widths-length, widths-size, values-length}

@@ -1,4 +1,3 @@
-pub mod Words
 pub mod Readings
 pub mod Markets
 pub mod Typed

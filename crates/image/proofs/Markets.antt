@@ -11,16 +11,16 @@ use lib.ListN.{length, getD, replicate, length-replicate, getD-replicate}
 use lib.Signed.{leZ}
 use mir.Syntax.{w32}
 use mir.Val.{SFits}
-use Rattle.laws.specs.Lists.{puts}
+use Rattle.laws.specs.Lists.{puts, sumFrom}
 use Rattle.laws.proofs.Tests.{and-left, and-right}
 use Rattle.laws.proofs.Integers.{test-le, abs-fits}
 use Rattle.laws.proofs.Lists.{flat-div, flat-mod, flat-lt, flat-place, length-puts, getD-puts-other}
+use Rattle.laws.proofs.Joined.{sum-split, sum-same, sum-blocks, getD-puts-same}
 use Rattle.pricing.specs.Holding.{inRange}
 use Rattle.book.specs.declared.record.Book.{Book}
 use Rattle.book.specs.Record.{marketsOf}
 use Rattle.book.proofs.Validities.{Valid}
-use Rattle.head.specs.Counted.{sumFrom, marketCount, countAt, howMany}
-use Rattle.head.proofs.Lists.{sum-split, sum-same, sum-blocks, getD-puts-same}
+use Rattle.head.specs.Counted.{marketCount, countAt, howMany}
 use Rattle.image.proofs.Readings.{before, placeAt}
 
 -- ---- a price in range is small

@@ -8,16 +8,16 @@ use borrow.Author.Tests.{lt-ltb}
 use lib.IntN.{ℤ, pos}
 use lib.ListN.{length, getD}
 use lib.Signed.{leZ}
-use Rattle.laws.specs.Lists.{allBelow, total}
+use Rattle.laws.specs.Lists.{allBelow, total, joined, sumFrom}
 use Rattle.laws.proofs.Tests.{and-left, and-right}
 use Rattle.laws.proofs.Integers.{test-le, le-test, same}
 use Rattle.laws.proofs.Lists.{all-at, at-all, length-run, getD-tabulate, tabulate-same}
+use Rattle.laws.proofs.Joined.{sum-same, at-left, tabulate-list, length-joined, joined-at}
 use Rattle.pricing.specs.Holding.{isEnergy, inRange}
 use Rattle.book.specs.declared.record.Book.{Book}
 use Rattle.book.specs.Record.{marketsOf}
-use Rattle.head.specs.Counted.{joined, sumFrom, marketCount, countAt, oldestAt, wrap, inOrder}
+use Rattle.head.specs.Counted.{marketCount, countAt, oldestAt, wrap, inOrder}
 use Rattle.image.specs.Storing.{marketOk, pricesOk}
-use Rattle.head.proofs.Lists.{sum-same, at-left, tabulate-list, length-joined, joined-at}
 use Rattle.image.proofs.Readings.{placeAt, padded, length-padded}
 
 -- ---- 22: market q's prices are in range, and their total is its sum

@@ -11,17 +11,18 @@ use lib.IntN.{ℤ, pos}
 use lib.ListN.{length, getD, take, drop, replicate, length-append, length-replicate}
 use lib.Seq.{drop-drop, take-add}
 use Rattle.laws.specs.Base.{pick}
-use Rattle.laws.specs.Lists.{tabulate, puts, total}
+use Rattle.laws.specs.Lists.{tabulate, puts, total, joined, sumFrom}
 use Rattle.laws.proofs.Tests.{by-test, lt-or-ge}
 use Rattle.laws.proofs.Lists.{length-run, tab-below, firstOf-none, firstOf-passed}
+use Rattle.laws.specs.Bytes.{words, priceAt}
+use Rattle.laws.proofs.Joined.{sum-next, sum-split}
+use Rattle.laws.proofs.Words.{words-append, words-back}
 use Rattle.pricing.specs.Holding.{isEnergy, inRange}
 use Rattle.book.specs.declared.record.Book.{Book}
 use Rattle.book.specs.Record.{marketsOf, placeOf}
-use Rattle.head.specs.Counted.{joined, sumFrom, countAt}
-use Rattle.head.specs.Layout.{words, headSize}
-use Rattle.image.specs.Loading.{priceAt, badIn, badFrom, windowsFrom, sumsFrom}
-use Rattle.head.proofs.Lists.{sum-next, sum-split}
-use Rattle.image.proofs.Words.{words-append, words-back}
+use Rattle.head.specs.Counted.{countAt}
+use Rattle.head.specs.Layout.{headSize}
+use Rattle.image.specs.Loading.{badIn, badFrom, windowsFrom, sumsFrom}
 
 -- how many prices stand before those of market q, and where these start
 abbrev pub before : Book → ℕ → ℕ

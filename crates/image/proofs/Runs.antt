@@ -10,16 +10,16 @@ use lib.IntN.{ℤ, pos, _+ℤ_}
 use lib.ListN.{length, getD}
 use lib.Seq.{sets}
 use Rattle.laws.specs.Base.{pick}
-use Rattle.laws.specs.Lists.{tabulate, allBelow, total}
+use Rattle.laws.specs.Lists.{tabulate, allBelow, total, placesOf}
 use Rattle.laws.proofs.Bytes.{sets-append}
 use Rattle.laws.proofs.Lists.{length-run, tabulate-parts, allBelow-parts}
 use Rattle.laws.proofs.Totals.{total-append}
+use Rattle.laws.specs.Bytes.{words, priceAt}
+use Rattle.laws.proofs.Words.{length-words, words-append}
 use Rattle.pricing.specs.Holding.{isEnergy, inRange}
 use Rattle.head.specs.Counted.{wrap, windowOf}
-use Rattle.head.specs.Layout.{words}
-use Rattle.image.specs.Loading.{priceAt, loadedWindow}
-use Rattle.image.specs.Working.{placesOf, beforeEnd}
-use Rattle.image.proofs.Words.{length-words, words-append}
+use Rattle.image.specs.Loading.{loadedWindow}
+use Rattle.image.specs.Working.{beforeEnd}
 
 -- how many are in the first run: it ends within the window, at its end where a price is left, and the others end before the oldest
 pub record Older (w s n m : ℕ) : Type 0 where

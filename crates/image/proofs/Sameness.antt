@@ -8,17 +8,17 @@ use lib.IntN.{ℤ}
 use lib.ListN.{length, drop}
 use Rattle.laws.specs.Base.{pick}
 use Rattle.laws.specs.Lists.{total}
-use Rattle.laws.specs.Bytes.{encode}
+use Rattle.laws.specs.Bytes.{encode, words}
+use Rattle.laws.proofs.Joined.{joined-same}
 use Rattle.pricing.specs.Verdict.{Verdict, accepted}
 use Rattle.book.specs.declared.record.Book.{Book}
 use Rattle.book.specs.Record.{marketsOf, ringSize, isAccepted}
 use Rattle.book.specs.Validity.{valid}
 use Rattle.book.specs.Report.{reportOf}
 use Rattle.head.specs.Counted.{marketCount, inOrder}
-use Rattle.head.specs.Layout.{widths, firsts, seconds, values, lengthOf, words, imageOf}
+use Rattle.head.specs.Layout.{widths, firsts, seconds, values, lengthOf, imageOf}
 use Rattle.image.specs.Storing.{pricesOk, storeVerdict, stored, Outcome}
 use Rattle.image.specs.Same.{Same}
-use Rattle.head.proofs.Lists.{joined-same}
 use Rattle.image.proofs.Prices.{prices-ok, ok-prices}
 
 -- ---- an equivalence

@@ -7,20 +7,20 @@ use native.Mathlib.Omega.{arith}
 use lib.IntN.{ℤ, pos, natAbs}
 use lib.ListN.{length, getD, take, drop, replicate, length-drop, take-append-drop}
 use lib.Seq.{take-all, length-take-le}
-use Rattle.laws.specs.Lists.{total}
-use Rattle.laws.specs.Bytes.{numberAt, encode, decode, sizeOf}
+use Rattle.laws.specs.Lists.{total, joined}
+use Rattle.laws.specs.Bytes.{numberAt, encode, decode, sizeOf, words, priceAt}
 use Rattle.laws.proofs.Totals.{total-size}
 use Rattle.laws.proofs.Lists.{length-run, getD-tabulate}
 use Rattle.laws.proofs.Bytes.{number-below}
 use Rattle.laws.proofs.Fields.{length-decode, encode-decode}
+use Rattle.laws.proofs.Joined.{joined-same}
 use Rattle.pricing.specs.Holding.{isEnergy}
 use Rattle.book.specs.Record.{marketsOf, ringSize}
 use Rattle.book.proofs.Validities.{Valid}
-use Rattle.head.specs.Counted.{joined, marketCount, countAt, inOrder, counted}
-use Rattle.head.specs.Layout.{widths, headSize, lengthOf, values, words, imageOf, bookOf, headFrom}
+use Rattle.head.specs.Counted.{marketCount, countAt, inOrder, counted}
+use Rattle.head.specs.Layout.{widths, headSize, lengthOf, values, imageOf, bookOf, headFrom}
 use Rattle.image.specs.Storing.{pricesOk}
-use Rattle.image.specs.Loading.{priceAt, bookFrom, ringFrom}
-use Rattle.head.proofs.Lists.{joined-same}
+use Rattle.image.specs.Loading.{bookFrom, ringFrom}
 use Rattle.image.proofs.Readings.{before, start, pricesAt, goodAt, windows-whole, sums-whole, bytes-whole, all-good-whole}
 use Rattle.image.proofs.Markets.{price-size, count-of, at-below, marketAt, prices-are, placed, placed-length, placed-at, placed-used, placed-unused}
 use Rattle.head.proofs.Heads.{widths-length, field-at}

@@ -15,13 +15,13 @@ use mir.Facts.{fits-ofZ}
 use Rattle.laws.proofs.Tests.{and-left, and-right, lt-or-ge}
 use Rattle.laws.proofs.Integers.{test-le, in-range}
 use Rattle.laws.proofs.Fields.{Fit, none, more, fit-append, fit-row}
+use Rattle.laws.specs.Lists.{sumFrom}
+use Rattle.laws.proofs.Joined.{sum-most}
 use Rattle.pricing.specs.Holding.{limitsOk}
 use Rattle.book.specs.declared.record.Book.{Book}
 use Rattle.book.specs.Validity.{thresholdOk}
 use Rattle.book.proofs.Validities.{Valid}
-use Rattle.head.specs.Counted.{sumFrom}
 use Rattle.head.specs.Layout.{widths, firsts, seconds, values, lengthOf}
-use Rattle.head.proofs.Lists.{sum-most}
 
 -- what a book's type says and rule 10 does not: the lengths of the arrays that an image holds
 pub record Typed (b : Book) : Type 0 where

@@ -11,47 +11,24 @@ use lib.Dec.{ltb}
 use lib.IntN.{ℤ, pos, _+ℤ_, +ℤ-assoc, +ℤ-idl, +ℤ-idr}
 use lib.ListN.{length, set, length-append}
 use lib.Seq.{sets}
-use mir.Syntax.{w32}
-use mir.Val.{ofZ}
 use Rattle.laws.specs.Base.{pick}
-use Rattle.laws.specs.Lists.{run, tabulate, total}
-use Rattle.laws.specs.Bytes.{le}
-use Rattle.laws.proofs.Bytes.{sets-append, sets-whole, length-le}
+use Rattle.laws.specs.Lists.{run, tabulate, total, joined, sumFrom}
+use Rattle.laws.specs.Bytes.{words, priceAt}
+use Rattle.laws.proofs.Bytes.{sets-append, sets-whole}
 use Rattle.laws.proofs.Lists.{length-run}
+use Rattle.laws.proofs.Words.{length-words, words-append}
 use Rattle.book.specs.declared.record.Book.{Book}
 use Rattle.book.specs.Record.{marketsOf}
 use Rattle.book.specs.Validity.{valid}
 use Rattle.book.proofs.Validities.{Valid, valid-is}
-use Rattle.head.specs.Counted.{joined, sumFrom, marketCount, countAt, oldestAt, howMany}
-use Rattle.head.specs.Layout.{words}
-use Rattle.image.specs.Loading.{priceAt, badIn, badFrom, ringOf, loadedWindow, windowsFrom, sumsFrom}
+use Rattle.head.specs.Counted.{marketCount, countAt, oldestAt, howMany}
+use Rattle.image.specs.Loading.{badIn, badFrom, ringOf, loadedWindow, windowsFrom, sumsFrom}
 use Rattle.head.proofs.Counts.{sum-none, sum-step}
-use Rattle.image.proofs.Words.{length-words, words-append}
 use Rattle.image.proofs.Readings.{placeAt}
 use Rattle.image.proofs.Markets.{region-of, count-of, place-of, prices-are}
 
--- ---- a window's prices, written and added up
+-- ---- a window's prices, added up
 module _ (f : ℕ → ℤ) where
-  words-one : (n i : ℕ) → words (run (suc n) i f) ≡ le 4 (ofZ w32 (f i)) ++ words (run n (suc i) f)
-  unfolding words run
-  words-one n i = refl
-
-  pub words-none : (l : List ℕ) (at n : ℕ) → sets l (at + 4 * 0) (words (run (n - 0) 0 f)) ≡ sets l at (words (tabulate n f))
-  words-none l at n = let a : at + 4 * 0 ≡ at = omega arith in let b : n - 0 ≡ n = omega arith in rw (a, b)
-
-  pub words-step : (l r : List ℕ) (at n i : ℕ) (z : ℤ) → i < n → z ≡ f i → sets l (at + 4 * i) (words (run (n - i) i f)) ≡ r
-      → sets (sets l (at + 4 * i) (le 4 (ofZ w32 z))) (at + 4 * (i + 1)) (words (run (n - (i + 1)) (i + 1) f)) ≡ r
-  words-step l r at n i z h q e =
-      let m : n - i ≡ suc (n - (i + 1)) = omega arith in
-      let j : i + 1 ≡ suc i = omega arith in
-      let a : at + 4 * (i + 1) ≡ at + 4 * i + length (le 4 (ofZ w32 (f i))) = omega (arith, length-le 4 (ofZ w32 (f i))) in
-      rw (a, q, ← sets-append l (at + 4 * i) (le 4 (ofZ w32 (f i))) (words (run (n - (i + 1)) (i + 1) f)), j, ← words-one (n - suc i) i)
-      (rw (m, j) at e)
-
-  pub words-done : (l r : List ℕ) (p n i : ℕ) → n ≤ i → sets l p (words (run (n - i) i f)) ≡ r → l ≡ r
-  unfolding words run
-  words-done l r p n i h e = let z : n - i ≡ 0 = omega arith in rw z at e
-
   total-one : (n i : ℕ) → total (run (suc n) i f) ≡ f i +ℤ total (run n (suc i) f)
   unfolding total run
   total-one n i = refl

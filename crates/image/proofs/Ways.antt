@@ -10,7 +10,7 @@ use lib.Dec.{eqb}
 use lib.IntN.{ℤ, pos}
 use lib.ListN.{length, drop, replicate}
 use lib.Seq.{sets}
-use Rattle.laws.specs.Bytes.{numberAt, encode}
+use Rattle.laws.specs.Bytes.{numberAt, encode, words}
 use Rattle.laws.proofs.Bytes.{sets-append, sets-front}
 use Rattle.pricing.specs.Verdict.{Verdict, accepted, refused, refusedAt}
 use Rattle.book.specs.declared.record.Book.{Book}
@@ -23,7 +23,7 @@ use Rattle.book.proofs.Validities.{Valid, valid-is, is-valid}
 use Rattle.book.proofs.Ways.{refusal-is}
 use Rattle.image.specs.declared.storing.Image.the-variants as image
 use Rattle.head.specs.Counted.{marketCount, counted, howMany}
-use Rattle.head.specs.Layout.{widths, headSize, lengthOf, values, words, imageOf, bookOf, headFrom}
+use Rattle.head.specs.Layout.{widths, headSize, lengthOf, values, imageOf, bookOf, headFrom}
 use Rattle.image.specs.Storing.{pricesOk, storeVerdict, stored}
 use Rattle.image.specs.Storing as store
 use Rattle.image.specs.Loading.{zerosOk, headVerdict, badFrom, firstBad, ringOf, loadVerdict, checked, windowsFrom, sumsFrom, bookFrom, ringFrom, loaded}

@@ -6,23 +6,17 @@ use mathlib.Core.Path.{_≡_}
 use lib.Dec.{ltb, eqb}
 use lib.IntN.{ℤ, pos}
 use lib.ListN.{length, getD, set, replicate}
-use mir.Syntax.{w32}
-use mir.Val.{toZ}
 use Rattle.laws.specs.Base.{pick}
 use Rattle.laws.specs.Lists.{tabulate, firstOf, total}
-use Rattle.laws.specs.Bytes.{numberAt, decode}
+use Rattle.laws.specs.Bytes.{numberAt, decode, priceAt}
 use Rattle.pricing.specs.Verdict.{Verdict, accepted, refused, refusedAt}
 use Rattle.pricing.specs.Holding.{isEnergy, inRange}
 use Rattle.book.specs.declared.record.Book.{Book}
 use Rattle.book.specs.Record.{closed, marketsOf, placeOf, ringSize, verdict, isAccepted}
 use Rattle.book.specs.Validity.{valid}
 use Rattle.image.specs.declared.loading.Loaded.{Loaded}
-use Rattle.head.specs.Counted.{marketCount, countAt, howMany, sumFrom}
+use Rattle.head.specs.Counted.{marketCount, countAt, howMany}
 use Rattle.head.specs.Layout.{widths, headSize, lengthOf, bookOf, headFrom}
-
--- price i of those that start at a place
-abbrev pub priceAt : List ℕ → ℕ → ℕ → ℤ
-priceAt bytes from i = toZ w32 (numberAt bytes (from + 4 * i) 4)
 
 -- "a zero byte .. not zero": bytes 11, 26 and 27
 abbrev pub zerosOk : List ℕ → Bool

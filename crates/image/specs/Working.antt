@@ -1,16 +1,8 @@
 -- The way by which the code takes a window's counted prices: as two runs of places, those up to the window's end and those from its
 -- first place on. The promises of `store` and `load` do not speak of these. Assumes nothing.
-use mathlib.Core.List.{List}
-use Prim.Native.Nat.{ℕ, _+_, _-_}
+use Prim.Native.Nat.{ℕ, _-_}
 use lib.Dec.{ltb}
-use lib.IntN.{ℤ, pos}
-use lib.ListN.{getD}
 use Rattle.laws.specs.Base.{pick}
-use Rattle.laws.specs.Lists.{tabulate}
-
--- n prices from a place of the ring on
-abbrev pub placesOf : List ℤ → ℕ → ℕ → List ℤ
-placesOf ring from n = tabulate n (λ i. getD ring (from + i) (pos 0))
 
 -- how many of n prices of a window of w places, the oldest at its place s, are in the first run
 abbrev pub beforeEnd : ℕ → ℕ → ℕ → ℕ

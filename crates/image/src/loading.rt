@@ -22,11 +22,12 @@ ghost use lib.IntN.{pos};
 ghost use lib.ListN.{length, replicate};
 ghost use lib.Seq.{sets};
 ghost use Rattle.laws.specs.Lists.{tabulate, allBelow, firstOf, total};
+ghost use Rattle.laws.specs.Bytes.{priceAt};
 ghost use Rattle.pricing.specs.Holding.{isEnergy, inRange};
 ghost use Rattle.book.specs.Record.{verdict};
 ghost use Rattle.book.specs.Validity.{valid};
 ghost use Rattle.head.specs.Counted.{marketCount, howMany};
-ghost use Rattle.image.specs.Loading.{priceAt, headVerdict, badFrom, ringOf, loadVerdict, checked, loadedWindow, windowsFrom, sumsFrom, outcome, loaded};
+ghost use Rattle.image.specs.Loading.{headVerdict, badFrom, ringOf, loadVerdict, checked, loadedWindow, windowsFrom, sumsFrom, outcome, loaded};
 
 pub struct Loaded {
     pub book: Book,

@@ -4,7 +4,7 @@ use book::record::Answer;
 use book::record::Book;
 use book::record::Refusal;
 use book::validity::valid;
-use codec::put_word;
+use codec::put_words;
 use head::counted::oldest;
 use head::layout::image_length;
 use head::layout::put_head;
@@ -15,15 +15,15 @@ ghost use Prim.Native.Nat.{_+_, _*_, _≤_, _<_};
 ghost use lib.IntN.{pos, natAbs};
 ghost use lib.ListN.{length, getD};
 ghost use lib.Seq.{sets};
-ghost use Rattle.laws.specs.Lists.{allBelow, total};
+ghost use Rattle.laws.specs.Lists.{allBelow, total, placesOf};
+ghost use Rattle.laws.specs.Bytes.{words};
 ghost use Rattle.pricing.specs.Holding.{isEnergy, inRange};
 ghost use Rattle.book.specs.Record.{verdict};
 ghost use Rattle.book.specs.Validity.{valid};
 ghost use Rattle.head.specs.Counted.{windowOf, counted, howMany};
-ghost use Rattle.head.specs.Layout.{words};
 ghost use Rattle.image.specs.Loading.{ringOf};
 ghost use Rattle.image.specs.Storing.{windowOk, pricesOk, storeVerdict, outcome, stored};
-ghost use Rattle.image.specs.Working.{placesOf, beforeEnd};
+ghost use Rattle.image.specs.Working.{beforeEnd};
 
 // The image's length, or the first refusal.
 pub enum Image {
@@ -45,18 +45,6 @@ fn before_end(window: usize, start: usize, count: usize) -> usize
     if count < room { count } else { room }
 }
 
-// `count` prices from place `from` of the ring on, put into `buffer` from `at`.
-fn put_run(ring: &[i32], from: usize, count: usize, buffer: &mut [u8], at: usize)
-    requires { ⌜ (from + count ≤ length (now ring)) × (at + 4 * count ≤ length (now buffer)) ⌝ }
-    ensures { λ _. ⌜ now (buffer .exit) ≡ sets (now (buffer .entry)) at (words (placesOf (now (ring .entry)) from count)) ⌝ }
-{
-    let mut i: usize = 0;
-    while i < count {
-        put_word(buffer, at + 4 * i, ring[from + i]);
-        i += 1;
-    }
-}
-
 // `count` prices of the window at `base`, the oldest at its place `start`, put into `buffer` from `at`: those up to the window's
 // end, and those from its first place on.
 fn put_window(
@@ -73,8 +61,8 @@ fn put_window(
     ensures { λ _. ⌜ now (buffer .exit) ≡ sets (now (buffer .entry)) at (words (windowOf (now (ring .entry)) base window start count)) ⌝ }
 {
     let older = before_end(window, start, count);
-    put_run(ring, base + start, older, buffer, at);
-    put_run(ring, base, count - older, buffer, at + 4 * older);
+    put_words(buffer, at, ring, base + start, older);
+    put_words(buffer, at + 4 * older, ring, base, count - older);
 }
 
 // The counted prices, market by market, put into `buffer` from `from`.

@@ -8,3 +8,5 @@ pub mod Totals
 pub mod Bytes
 pub mod Fields
 pub mod Tables
+pub mod Joined
+pub mod Words

@@ -1,7 +1,10 @@
 -- Numbers as bytes, the lower byte first, and fields one after the other. Assumes nothing.
 use Prim.Native.Nat.{ℕ, zero, suc, _+_, _*_, _/_, _%_}
 use mathlib.Core.List.{List, [], _∷_, _++_}
+use lib.IntN.{ℤ}
 use lib.ListN.{take, drop}
+use mir.Syntax.{w32}
+use mir.Val.{ofZ, toZ}
 
 -- x in w bytes; what does not fit is left out
 unfoldable pub le : ℕ → ℕ → List ℕ
@@ -32,3 +35,12 @@ decode (w ∷ ws) l = number (take w l) ∷ decode ws (drop w l)
 unfoldable pub sizeOf : List ℕ → ℕ
 sizeOf [] = 0
 sizeOf (w ∷ ws) = w + sizeOf ws
+
+-- signed numbers, "4 bytes each"
+unfoldable pub words : List ℤ → List ℕ
+words [] = []
+words (z ∷ zs) = le 4 (ofZ w32 z) ++ words zs
+
+-- number i of those that start at a place; of an image its price i
+abbrev pub priceAt : List ℕ → ℕ → ℕ → ℤ
+priceAt bytes from i = toZ w32 (numberAt bytes (from + 4 * i) 4)

@@ -1,9 +1,9 @@
 -- Lists, bounded searches and totals that the definitions of every layer are written with. Assumes nothing.
 use mathlib.Core.Bool.{Bool, true, false, _&&_, _||_}
-use mathlib.Core.List.{List, [], _∷_}
+use mathlib.Core.List.{List, [], _∷_, _++_}
 use Prim.Native.Nat.{ℕ, zero, suc, _+_, _-_}
 use lib.IntN.{ℤ, pos, _+ℤ_}
-use lib.ListN.{length, drop, set}
+use lib.ListN.{length, drop, getD, set}
 use Rattle.laws.specs.Base.{pick}
 
 -- f i, f (i + 1), .. : n of them
@@ -48,3 +48,17 @@ total (x ∷ l) = x +ℤ total l
 -- the last n of a list, or all if fewer
 unfoldable pub lastN {ℓ} : {A : Type ℓ} → ℕ → List A → List A
 lastN n l = drop (length l - n) l
+
+-- f i ++ f (i + 1) ++ .. : n of them
+unfoldable pub joined {ℓ} : {A : Type ℓ} → ℕ → ℕ → (ℕ → List A) → List A
+joined zero i f = []
+joined (suc n) i f = f i ++ joined n (suc i) f
+
+-- f i + f (i + 1) + .. : n of them
+unfoldable pub sumFrom : ℕ → ℕ → (ℕ → ℕ) → ℕ
+sumFrom zero i f = 0
+sumFrom (suc n) i f = f i + sumFrom n (suc i) f
+
+-- n numbers of a list from a place on
+abbrev pub placesOf : List ℤ → ℕ → ℕ → List ℤ
+placesOf l from n = tabulate n (λ i. getD l (from + i) (pos 0))

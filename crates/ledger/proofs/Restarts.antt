@@ -10,7 +10,7 @@ use lib.Dec.{eqb, ltb}
 use lib.IntN.{ℤ, pos}
 use lib.ListN.{length, getD, take}
 use Rattle.laws.specs.Base.{pick}
-use Rattle.laws.specs.Lists.{total}
+use Rattle.laws.specs.Lists.{total, sumFrom}
 use Rattle.laws.proofs.Tests.{by-test, lt-or-ge}
 use Rattle.laws.proofs.Lists.{flat-lt, length-run}
 use Rattle.pricing.specs.Verdict.{Verdict, accepted, refused}
@@ -18,7 +18,7 @@ use Rattle.book.specs.declared.record.Book.{Book}
 use Rattle.book.specs.Record.{closed, marketsOf, placeOf, ringSize, isAccepted}
 use Rattle.book.specs.Validity.{valid}
 use Rattle.book.proofs.Validities.{Valid, valid-is}
-use Rattle.head.specs.Counted.{sumFrom, inOrder, howMany}
+use Rattle.head.specs.Counted.{inOrder, howMany}
 use Rattle.head.specs.Layout.{lengthOf}
 use Rattle.image.specs.Storing as Storing
 use Rattle.image.specs.Storing.{pricesOk, storeVerdict, stored}

@@ -7,8 +7,8 @@ use Prim.Native.Nat.{ℕ}
 use lib.IntN.{ℤ, pos, negsuc}
 use lib.ListN.{length, getD, replicate}
 use Rattle.laws.specs.Base.{minZ, maxZ}
-use Rattle.laws.specs.Lists.{run, allBelow, anyBelow, countBelow, firstOf, total, lastN}
-use Rattle.laws.specs.Bytes.{le, number, numberAt, encode, decode}
+use Rattle.laws.specs.Lists.{run, allBelow, anyBelow, countBelow, firstOf, total, lastN, joined, sumFrom}
+use Rattle.laws.specs.Bytes.{le, number, numberAt, encode, decode, words}
 use Rattle.pricing.specs.Verdict.{Verdict, accepted, refused, refusedAt}
 use Rattle.pricing.specs.Rounding.{nearest, rounded}
 use Rattle.pricing.specs.Holding.{held}
@@ -27,8 +27,7 @@ use Rattle.publishing.specs.Effective.{scheduled, effective}
 use Rattle.publishing.specs.Capped.{anyAdministered, cappedBy}
 use Rattle.publishing.specs.Bounds.{hasLimit, limit, atMost, atLeast}
 use Rattle.publishing.specs.Published.{published}
-use Rattle.head.specs.Counted.{joined, sumFrom}
-use Rattle.head.specs.Layout.{widths, firsts, seconds, values, words, imageOf, bookOf}
+use Rattle.head.specs.Layout.{widths, firsts, seconds, values, imageOf, bookOf}
 use Rattle.image.specs.Storing.{storeVerdict, stored}
 use Rattle.image.specs.Loading.{headVerdict, badFrom, loadVerdict, windowsFrom, sumsFrom, bookFrom, ringFrom, loaded}
 use Rattle.entries.specs.Checking.{entryVerdict}

@@ -6,10 +6,9 @@ use native.Mathlib.Omega.{arith}
 use lib.IntN.{ℤ}
 use lib.ListN.{length, take, drop, length-append, take-append-drop}
 use lib.Seq.{sets, length-sets, length-take-le, take-at, drop-at, drop-drop}
-use Rattle.laws.specs.Bytes.{numberAt}
+use Rattle.laws.specs.Bytes.{numberAt, priceAt}
 use Rattle.laws.proofs.Lists.{length-run}
 use Rattle.laws.proofs.Bytes.{take-sets, drop-sets}
-use Rattle.image.specs.Loading.{priceAt}
 use Rattle.book.specs.declared.record.Book.{Book}
 use Rattle.publishing.specs.Entry.{Entry, entryOf}
 use Rattle.entries.specs.declared.Entered.{Entered}

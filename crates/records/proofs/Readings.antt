@@ -13,11 +13,10 @@ use mir.Val.{toZ}
 use borrow.Author.Tests.{lt-ltb, le-ltb, le-leb, lt-leb, eq-eqb, ne-eqb, eqb-true, ltb-true, ltb-false}
 use Rattle.laws.specs.Base.{pick}
 use Rattle.laws.specs.Lists.{tabulate}
-use Rattle.laws.specs.Bytes.{numberAt}
+use Rattle.laws.specs.Bytes.{numberAt, priceAt}
 use Rattle.laws.proofs.Tests.{by-test}
 use Rattle.laws.proofs.Lists.{length-run}
 use Rattle.laws.proofs.Bytes.{number-below, sets-append}
-use Rattle.image.specs.Loading.{priceAt}
 use Rattle.book.specs.declared.record.Settings.{Settings}
 use Rattle.records.specs.declared.reading.Lengths.{Lengths}
 use Rattle.records.specs.Reading.{sizeAt, kindAt, openingSize, parentAt, settingsIn, opens, lengthsAt, entrySize, entrySizeAt, sizeFor, callSize, Room, fits, answerSize, goes, wordsAt, numbersAt, pricesFrom, flowsFrom, factorsFrom, scheduleFrom, tableFrom, signedAt, factorsAt, tableAt}

@@ -1,5 +1,5 @@
 -- Laws of the records of answers: their parts put one after the other, and how long they are. Assumes nothing.
-use mathlib.Core.Path.{_≡_, refl, sym}
+use mathlib.Core.Path.{_≡_, refl, sym, ap, _∙_}
 use mathlib.Core.List.{List, _++_}
 use Prim.Native.Nat.{ℕ, _+_, _*_}
 use native.Mathlib.Omega.{arith}
@@ -8,12 +8,13 @@ use lib.ListN.{length, length-append}
 use lib.Seq.{sets}
 use mir.Syntax.{w64}
 use mir.Val.{ofZ}
-use Rattle.laws.specs.Bytes.{le}
+use Rattle.laws.specs.Lists.{placesOf}
+use Rattle.laws.specs.Bytes.{le, words}
 use Rattle.laws.proofs.Bytes.{sets-append, length-le}
+use Rattle.laws.proofs.Joined.{places-whole}
+use Rattle.laws.proofs.Words.{length-words}
 use Rattle.pricing.specs.Verdict.{Verdict}
 use Rattle.book.specs.Report.{Numbers}
-use Rattle.head.specs.Layout.{words}
-use Rattle.image.proofs.Words.{length-words}
 use Rattle.records.specs.Writing.{headOf, entryRecord, valuesOf, reportRecord}
 
 -- ---- one part after the other
@@ -42,13 +43,14 @@ length-head size kind v = simp (length-append, length-le)
 
 -- ---- the answer to an entry
 module _ (l k m n : List ℕ) (at : ℕ) (v : Verdict) (count : ℕ) (table : List ℤ) where
-  pub entry-put : (u : Verdict) (x : ℕ) → u ≡ v → x ≡ count → k ≡ sets l at (headOf (18 + 4 * length table) 65 u) → m ≡ sets k (at + 14) (le 4 x) → n ≡ sets m (at + 18) (words table)
+  pub entry-put : (u : Verdict) (x : ℕ) → u ≡ v → x ≡ count → k ≡ sets l at (headOf (18 + 4 * length table) 65 u) → m ≡ sets k (at + 14) (le 4 x) → n ≡ sets m (at + 18) (words (placesOf table 0 (length table)))
       → n ≡ sets l at (entryRecord v count table)
   entry-put u x e f g h i =
       let s = headOf (18 + 4 * length table) 65 u in
       rw (← e, ← f)
       (part-then l k n s (le 4 x ++ words table) at (at + 14) (omega (arith, length-head (18 + 4 * length table) 65 u)) g
-      (part-then k m n (le 4 x) (words table) (at + 14) (at + 18) (omega (arith, length-le 4 x)) h i))
+      (part-then k m n (le 4 x) (words table) (at + 14) (at + 18) (omega (arith, length-le 4 x)) h
+      (i ∙ ap (λ (t : List ℤ). sets m (at + 18) (words t)) (places-whole table))))
 
 pub length-entry : (v : Verdict) (count : ℕ) (table : List ℤ) → length (entryRecord v count table) ≡ 18 + 4 * length table
 length-entry v count table = simp (length-append, length-le, length-head, length-words) (omega arith)

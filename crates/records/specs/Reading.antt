@@ -10,8 +10,7 @@ use mir.Syntax.{w32, w64}
 use mir.Val.{toZ}
 use Rattle.laws.specs.Base.{pick}
 use Rattle.laws.specs.Lists.{tabulate}
-use Rattle.laws.specs.Bytes.{numberAt}
-use Rattle.image.specs.Loading.{priceAt}
+use Rattle.laws.specs.Bytes.{numberAt, priceAt}
 use Rattle.book.specs.declared.record.Settings.{Settings}
 use Rattle.publishing.specs.Entry.{Entry, entryOf}
 use Rattle.records.specs.declared.reading.Lengths.{Lengths}

@@ -2,6 +2,7 @@
 use book::record::Settings;
 use codec::get;
 use codec::get_eight;
+use codec::get_numbers;
 use codec::get_u8;
 use codec::get_u16;
 use codec::get_u32;
@@ -26,19 +27,6 @@ pub struct Lengths {
     pub schedule: usize,
     pub table: usize,
     pub ring: usize,
-}
-
-// `n` unsigned numbers from `at`, put into the first places of `numbers`.
-fn get_numbers(bytes: &[u8], at: usize, n: usize, numbers: &mut [u32])
-    requires { ⌜ (at + 4 * n ≤ length (now bytes)) × (n ≤ length (now numbers)) ⌝ }
-    ensures { λ _. ⌜ now (numbers .exit) ≡ sets (now (numbers .entry)) 0 (numbersAt (now (bytes .entry)) at n) ⌝ }
-{
-    let mut i: usize = 0;
-    while i < n {
-        let number = get_u32(bytes, at + 4 * i);
-        numbers[i] = number;
-        i += 1;
-    }
 }
 
 // Whether an opening's whole record stands first.
@@ -223,6 +211,6 @@ pub fn read_entry(
     get_words(bytes, at + 40, prices, numbers, 0);
     get_words(bytes, at + flows_from, flows, numbers, prices);
     get_words(bytes, at + schedule_from, schedule, numbers, prices + flows);
-    get_numbers(bytes, at + factors_from, lengths.factors, factors);
+    get_numbers(bytes, at + factors_from, lengths.factors, factors, 0);
     get_words(bytes, at + table_from, lengths.table, table, 0);
 }

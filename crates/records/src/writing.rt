@@ -5,15 +5,15 @@ use book::record::place_in;
 use book::report::Reading;
 use codec::bits64;
 use codec::put;
-use codec::put_word;
+use codec::put_words;
 use entries::Publication;
 ghost use mathlib.Core.Path.{_≡_};
 ghost use Prim.Native.Nat.{_+_, _*_, _≤_};
 ghost use lib.ListN.{length};
 ghost use lib.Seq.{sets};
+ghost use Rattle.laws.specs.Bytes.{words};
 ghost use Rattle.book.specs.Record.{verdict};
 ghost use Rattle.book.specs.Report.{numbers};
-ghost use Rattle.head.specs.Layout.{words};
 ghost use Rattle.entries.specs.Entering as Entering;
 ghost use Rattle.records.specs.Writing.{headOf, entryRecord, reportRecord};
 
@@ -28,18 +28,6 @@ pub fn put_answer(answers: &mut [u8], at: usize, size: usize, kind: u16, answer:
     put(answers, at + 4, 2, kind as u64);
     put(answers, at + 6, 4, number as u64);
     put(answers, at + 10, 4, place as u64);
-}
-
-// Signed numbers, four bytes each, put from a place.
-fn put_words(answers: &mut [u8], at: usize, numbers: &[i32])
-    requires { ⌜ at + 4 * length (now numbers) ≤ length (now answers) ⌝ }
-    ensures { λ _. ⌜ now (answers .exit) ≡ sets (now (answers .entry)) at (words (now (numbers .entry))) ⌝ }
-{
-    let mut i: usize = 0;
-    while i < numbers.len() {
-        put_word(answers, at + 4 * i, numbers[i]);
-        i += 1;
-    }
 }
 
 fn answer_of(publication: Publication) -> Answer
@@ -69,7 +57,7 @@ pub fn put_entered(answers: &mut [u8], at: usize, publication: Publication, tabl
     let count = count_of(publication);
     put_answer(answers, at, 18 + 4 * table.len(), 65, answer);
     put(answers, at + 14, 4, count as u64);
-    put_words(answers, at + 18, table);
+    put_words(answers, at + 18, table, 0, table.len());
 }
 
 // The answer to a report: a market's sum, prices counted and period mark, and the entries taken.

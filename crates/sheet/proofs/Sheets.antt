@@ -9,9 +9,10 @@ use borrow.Author.Tests.{lt-ltb, le-ltb, eq-eqb, ne-eqb}
 use lib.IntN.{pos}
 use lib.ListN.{length, getD, drop, length-append}
 use Rattle.laws.proofs.Lists.{flat-place}
+use Rattle.laws.specs.Lists.{joined}
 use Rattle.amount.specs.Text.{paste}
 use Rattle.book.specs.declared.record.Book.{Book}
-use Rattle.head.specs.Counted.{joined, marketCount}
+use Rattle.head.specs.Counted.{marketCount}
 use Rattle.head.specs.Layout.{headFrom}
 use Rattle.image.specs.Loading.{ringOf, checked, bookFrom}
 use Rattle.sheet.specs.Put.{Put}

@@ -6,10 +6,11 @@ use lib.Dec.{eqb, ltb}
 use lib.IntN.{ℤ, pos}
 use lib.ListN.{length, getD}
 use Rattle.laws.specs.Base.{pick}
+use Rattle.laws.specs.Lists.{joined}
 use Rattle.amount.specs.Text.{decimal, amountText}
 use Rattle.book.specs.declared.record.Book.{Book}
 use Rattle.book.specs.Record.{marketsOf, placeOf}
-use Rattle.head.specs.Counted.{joined, marketCount, countAt}
+use Rattle.head.specs.Counted.{marketCount, countAt}
 use Rattle.head.specs.Layout.{headFrom}
 use Rattle.image.specs.Loading.{ringOf, checked, bookFrom}
 

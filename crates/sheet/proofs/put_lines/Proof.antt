@@ -10,7 +10,7 @@ use lib.ListN.{length, getD}
 use mir.Syntax.{w64}
 use mir.Val.{SFits}
 use Rattle.laws.proofs.Integers.{signed}
-use Rattle.head.specs.Counted.{joined}
+use Rattle.laws.specs.Lists.{joined}
 use Rattle.sheet.specs.Put.{Put}
 use Rattle.sheet.specs.Sheet.{line, lines}
 use Rattle.sheet.proofs.Sheets.{lines-none, lines-next, lines-done, market-of}

@@ -6,7 +6,7 @@ use lib.ListN.{getD}
 use mir.Syntax.{w16}
 use mir.Val.{Fits}
 use borrow.Author.Needs.{needs}
-use Rattle.head.specs.Counted.{sumFrom}
+use Rattle.laws.specs.Lists.{sumFrom}
 use Rattle.head.proofs.Counts.{sum-step, sum-done}
 use Rattle.head.proofs.counted.sum_counts.Statement.{statement}
 use Rattle.head.proofs.counted.sum_counts.Tie as tie

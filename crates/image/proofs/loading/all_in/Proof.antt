@@ -7,8 +7,8 @@ use mir.Val.{SFits}
 use Rattle.laws.specs.Lists.{allBelow}
 use Rattle.laws.proofs.Integers.{signed}
 use Rattle.laws.proofs.Lists.{allBelow-none, allBelow-step}
+use Rattle.laws.specs.Bytes.{priceAt}
 use Rattle.pricing.specs.Holding.{isEnergy, inRange}
-use Rattle.image.specs.Loading.{priceAt}
 use borrow.Author.Needs.{needs}
 use Rattle.image.proofs.loading.all_in.Statement.{statement}
 use Rattle.image.proofs.loading.all_in.Tie as tie

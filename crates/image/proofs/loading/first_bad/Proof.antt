@@ -3,8 +3,9 @@ use mathlib.Core.Path.{_≡_, sym, _∙_}
 use Prim.Native.Nat.{ℕ, _≤_, _-_, _+_, _*_}
 use native.Mathlib.Omega.{arith}
 use lib.ListN.{length}
+use Rattle.laws.specs.Lists.{sumFrom}
 use Rattle.book.specs.declared.record.Book.{Book}
-use Rattle.head.specs.Counted.{sumFrom, marketCount, countAt, howMany}
+use Rattle.head.specs.Counted.{marketCount, countAt, howMany}
 use Rattle.image.specs.Loading.{badFrom}
 use Rattle.image.proofs.Walks.{few, Market, market, left-none, left-here, left-step, bad-none, bad-here, bad-step, bad-done}
 use borrow.Author.Needs.{needs}

@@ -7,8 +7,9 @@ use lib.Seq.{sets}
 use mir.Syntax.{w64}
 use mir.Val.{SFits}
 use mir.Facts.{toZ-ofZ}
+use Rattle.laws.specs.Lists.{sumFrom}
 use Rattle.book.specs.declared.record.Book.{Book}
-use Rattle.head.specs.Counted.{sumFrom, marketCount, countAt, howMany}
+use Rattle.head.specs.Counted.{marketCount, countAt, howMany}
 use Rattle.image.specs.Loading.{windowsFrom, sumsFrom}
 use Rattle.image.proofs.Walks.{few, Market, market, left-none, left-here, left-step, windows-none, windows-step, windows-done, sums-none, sums-step, sums-done}
 use borrow.Author.Needs.{needs}

@@ -8,8 +8,8 @@ use mir.Syntax.{w32}
 use mir.Val.{SFits}
 use Rattle.laws.proofs.Integers.{signed}
 use Rattle.laws.proofs.Lists.{firstOf-found, firstOf-none}
+use Rattle.laws.specs.Bytes.{priceAt}
 use Rattle.pricing.specs.Holding.{isEnergy, inRange}
-use Rattle.image.specs.Loading.{priceAt}
 use borrow.Author.Needs.{needs}
 use Rattle.image.proofs.loading.search_bad.Statement.{statement}
 use Rattle.image.proofs.loading.search_bad.Tie as tie

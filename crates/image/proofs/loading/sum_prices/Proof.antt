@@ -7,7 +7,7 @@ use mir.Syntax.{w32, w64}
 use mir.Val.{SFits, toZ}
 use Rattle.laws.specs.Lists.{run, tabulate, total}
 use Rattle.laws.proofs.Integers.{signed, i32-i64, add-fits, fits-abs, abs-add}
-use Rattle.image.specs.Loading.{priceAt}
+use Rattle.laws.specs.Bytes.{priceAt}
 use Rattle.image.proofs.Walks.{total-none, total-step, total-done}
 use borrow.Author.Needs.{needs}
 use Rattle.image.proofs.loading.sum_prices.Statement.{statement}

@@ -5,9 +5,10 @@ use native.Mathlib.Omega.{arith}
 use lib.ListN.{length}
 use lib.Seq.{sets}
 use Rattle.laws.proofs.Lists.{length-run}
+use Rattle.laws.specs.Lists.{joined, sumFrom}
+use Rattle.laws.specs.Bytes.{words}
 use Rattle.book.specs.declared.record.Book.{Book}
-use Rattle.head.specs.Counted.{joined, sumFrom, marketCount, countAt, howMany, windowOf, inOrder, counted}
-use Rattle.head.specs.Layout.{words}
+use Rattle.head.specs.Counted.{marketCount, countAt, howMany, windowOf, inOrder, counted}
 use Rattle.image.proofs.Walks.{few, Market, market, left-none, left-here, left-step, joined-none, joined-step, joined-done}
 use borrow.Author.Needs.{needs}
 use Rattle.image.proofs.storing.put_prices.Statement.{statement}

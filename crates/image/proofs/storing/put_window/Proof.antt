@@ -14,23 +14,23 @@ runs c =
 before-end-requires : tie.Need-before-end-requires
 before-end-requires c κs = search needs
 
-add-put-run : tie.Need-add-put-run
-add-put-run c = search needs
+add-put-words : tie.Need-add-put-words
+add-put-words c = search needs
 
-put-run-requires : tie.Need-put-run-requires
-put-run-requires c κs = let o = runs (c .before) in (omega (arith, o .within), omega (arith, o .part))
+put-words-requires : tie.Need-put-words-requires
+put-words-requires c κs = let o = runs (c .before) in (omega (arith, o .within), omega (arith, o .part))
 
-sub-put-run : tie.Need-sub-put-run
-sub-put-run c = omega (arith, runs (c .before .before .before .before) .part)
+mul-put-words : tie.Need-mul-put-words
+mul-put-words c = omega (arith, runs (c .before .before .before .before .before) .part)
 
-mul-put-run : tie.Need-mul-put-run
-mul-put-run c = omega (arith, runs (c .before .before .before .before .before) .part)
+add-put-words-2 : tie.Need-add-put-words-2
+add-put-words-2 c = omega (arith, runs (c .before .before .before .before .before) .part)
 
-add-put-run-2 : tie.Need-add-put-run-2
-add-put-run-2 c = omega (arith, runs (c .before .before .before .before .before) .part)
+sub-put-words : tie.Need-sub-put-words
+sub-put-words c = omega (arith, runs (c .before .before .before .before .before) .part)
 
-put-run-requires-2 : tie.Need-put-run-requires-2
-put-run-requires-2 c κs = let o = runs (c .before .before .before .before .before) in (omega (arith, o .part), omega (arith, o .part))
+put-words-requires-2 : tie.Need-put-words-requires-2
+put-words-requires-2 c κs = let o = runs (c .before .before .before .before .before) in (omega (arith, o .part), omega (arith, o .part))
 
 same-length : tie.Need-same-length
 same-length c = search needs
@@ -41,18 +41,18 @@ returns c =
     let q = p .before .before .before .before in
     let b = q .before .before in
     let a = b .before .before .args in
-    rw (p .put-run2 .ensures, q .put-run .ensures) (put-runs (a .ring .now) (a .base) (a .window) (a .start) (a .count) (b .before-end .result) (runs b) (a .buffer .now) (a .at))
+    rw (p .put-words2 .ensures, q .put-words .ensures) (put-runs (a .ring .now) (a .base) (a .window) (a .start) (a .count) (b .before-end .result) (runs b) (a .buffer .now) (a .at))
 
 pub put-window-spec : {M : Type 1} → statement M
 put-window-spec =
     tie.close
     (tie.spec
     before-end-requires
-    add-put-run
-    put-run-requires
-    sub-put-run
-    mul-put-run
-    add-put-run-2
-    put-run-requires-2
+    add-put-words
+    put-words-requires
+    mul-put-words
+    add-put-words-2
+    sub-put-words
+    put-words-requires-2
     same-length
     returns)

@@ -6,10 +6,9 @@ use lib.IntN.{ℤ, pos, natAbs, _+ℤ_}
 use lib.ListN.{getD}
 use mir.Syntax.{w32, w64}
 use mir.Val.{SFits, toZ}
-use Rattle.laws.specs.Lists.{run}
+use Rattle.laws.specs.Lists.{run, placesOf}
 use Rattle.laws.specs.Lists as Lists
 use Rattle.laws.proofs.Integers.{signed, i32-i64, add-fits, fits-abs, abs-add}
-use Rattle.image.specs.Working.{placesOf}
 use Rattle.image.proofs.Walks.{total-none, total-step, total-done}
 use borrow.Author.Needs.{needs}
 use Rattle.image.proofs.storing.run_total.Statement.{statement}

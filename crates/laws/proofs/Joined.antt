@@ -6,12 +6,12 @@ use Prim.Native.Nat.{ℕ, zero, suc, _+_, _*_, _-_, _/_, _<_, _≤_}
 use native.Mathlib.Nat.{not-suc-le-zero, suc-mul, mul-zero}
 use native.Mathlib.Omega.{arith}
 use lib.Arith.{digits-div}
+use lib.IntN.{ℤ, pos}
 use lib.ListN.{length, getD, take, drop, length-append, List·getD-append}
 use lib.Seq.{ext-getD, getD-append-add, getD-set-same, getD-set-other, drop-cons}
-use Rattle.laws.specs.Lists.{run, tabulate, puts}
+use Rattle.laws.specs.Lists.{run, tabulate, puts, joined, sumFrom, placesOf}
 use Rattle.laws.proofs.Tests.{lt-or-ge}
 use Rattle.laws.proofs.Lists.{length-run, getD-tabulate, length-puts}
-use Rattle.head.specs.Counted.{joined, sumFrom}
 
 -- ---- sums
 pub sum-last : (n i : ℕ) (f : ℕ → ℕ) → sumFrom (suc n) i f ≡ sumFrom n i f + f (i + n)
@@ -79,6 +79,13 @@ module _ {A : Type 0} where
   unfolding run
   take-run d l zero i h = refl
   take-run d l (suc n) i h = rw (drop-cons l i d (omega arith), take-run d l n (suc i) (omega arith))
+
+-- all places of a list of numbers
+pub places-whole : (l : List ℤ) → placesOf l 0 (length l) ≡ l
+places-whole l =
+    let f : ℕ → ℤ = λ i. getD l (0 + i) (pos 0) in
+    ext-getD (pos 0) _ l (length-run f (length l) 0)
+    (λ i h. let z : 0 + i ≡ i = omega arith in getD-tabulate f (length l) i (pos 0) (omega (arith, length-run f (length l) 0)) ∙ ap (λ (k : ℕ). getD l k (pos 0)) z)
 
 -- ---- lists one after the other, f i of the length c i
 module _ {A : Type 0} where

@@ -1,4 +1,4 @@
--- `image::storing::put_run` meets its contract. The loop's invariant: what is still to go is the same at every turn. Assumes nothing.
+-- `codec::put_words` meets its contract. The loop's invariant: what is still to go is the same at every turn. Assumes nothing.
 use mathlib.Core.Path.{_≡_, refl, _∙_}
 use Prim.Native.Nat.{_≤_, _-_, _+_, _*_}
 use native.Mathlib.Omega.{arith}
@@ -6,19 +6,18 @@ use lib.IntN.{pos}
 use lib.ListN.{length, getD}
 use lib.Seq.{sets}
 use mir.Facts.{toZ-ofZ}
-use Rattle.laws.specs.Lists.{run}
-use Rattle.head.specs.Layout.{words}
-use Rattle.image.specs.Working.{placesOf}
-use Rattle.image.proofs.Walks.{words-none, words-step, words-done}
+use Rattle.laws.specs.Lists.{run, placesOf}
+use Rattle.laws.specs.Bytes.{words}
+use Rattle.laws.proofs.Words.{words-none, words-step, words-done}
 use borrow.Author.Needs.{sfits-of}
-use Rattle.image.proofs.storing.put_run.Statement.{statement}
-use Rattle.image.proofs.storing.put_run.Tie as tie
+use Rattle.codec.proofs.put_words.Statement.{statement}
+use Rattle.codec.proofs.put_words.Tie as tie
 
 abbrev Inv-loop : tie.InvT-loop
-Inv-loop ring from count buffer₀ at i₀ buffer i = (i ≤ count) × (length buffer ≡ length buffer₀) × (sets buffer (at + 4 * i) (words (run (count - i) i (λ k. getD ring (from + k) (pos 0)))) ≡ sets buffer₀ at (words (placesOf ring from count)))
+Inv-loop bytes₀ at numbers from n i₀ bytes i = (i ≤ n) × (length bytes ≡ length bytes₀) × (sets bytes (at + 4 * i) (words (run (n - i) i (λ k. getD numbers (from + k) (pos 0)))) ≡ sets bytes₀ at (words (placesOf numbers from n)))
 
 abbrev μ-loop : tie.MeasureT-loop
-μ-loop ring from count buffer₀ at i₀ buffer i = count - i
+μ-loop bytes₀ at numbers from n i₀ bytes i = n - i
 
 loop-holds : tie.Need-loop-holds Inv-loop μ-loop
 loop-holds c = (omega arith, refl, words-none _ _ _ _)
@@ -55,7 +54,7 @@ loop-again c =
       omega arith,
       c .before .before .put-word .kept .0 ∙ l .inv .1,
       rw (c .before .before .put-word .ensures)
-          (words-step (λ k. getD (a .ring .now) (a .from + k) (pos 0)) _ _ _ _ _ _ (omega arith) (toZ-ofZ f) (l .inv .2)),
+          (words-step (λ k. getD (a .numbers .now) (a .from + k) (pos 0)) _ _ _ _ _ _ (omega arith) (toZ-ofZ f) (l .inv .2)),
     )
 
 same-length : tie.Need-same-length Inv-loop μ-loop
@@ -64,8 +63,8 @@ same-length c = omega arith
 returns : tie.Need-returns Inv-loop μ-loop
 returns c = words-done _ _ _ _ _ _ (omega arith) (c .before .loop .inv .2)
 
-pub put-run-spec : {M : Type 1} → statement M
-put-run-spec =
+pub put-words-spec : {M : Type 1} → statement M
+put-words-spec =
     tie.close
     (tie.spec
     Inv-loop

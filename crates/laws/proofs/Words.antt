@@ -1,19 +1,17 @@
--- Prices and their bytes, four each. Assumes nothing.
+-- Signed numbers and their bytes, four each: an image's prices, a table. Assumes nothing.
 use mathlib.Core.Path.{_≡_, refl, sym, _∙_}
 use mathlib.Core.List.{List, [], _∷_, _++_, append-assoc}
-use Prim.Native.Nat.{ℕ, zero, suc, _+_, _*_, _<_, _≤_}
+use Prim.Native.Nat.{ℕ, zero, suc, _+_, _*_, _-_, _<_, _≤_}
 use native.Mathlib.Nat.{not-suc-le-zero}
 use native.Mathlib.Omega.{arith}
 use lib.IntN.{ℤ, pos}
 use lib.ListN.{length, getD, take, drop, length-append}
-use lib.Seq.{drop-drop, drop-at, take-at, take-add}
+use lib.Seq.{sets, drop-drop, drop-at, take-at, take-add}
 use mir.Syntax.{w32}
 use mir.Val.{SFits, ofZ}
-use Rattle.laws.specs.Lists.{run}
-use Rattle.laws.specs.Bytes.{le, numberAt}
-use Rattle.laws.proofs.Bytes.{length-le, word-back, signed-there}
-use Rattle.head.specs.Layout.{words}
-use Rattle.image.specs.Loading.{priceAt}
+use Rattle.laws.specs.Lists.{run, tabulate}
+use Rattle.laws.specs.Bytes.{le, numberAt, words, priceAt}
+use Rattle.laws.proofs.Bytes.{length-le, sets-append, word-back, signed-there}
 
 pub length-words : (zs : List ℤ) → length (words zs) ≡ 4 * length zs
 unfolding words
@@ -47,3 +45,25 @@ words-back l b (suc n) from i h =
     let e : 4 * suc n ≡ 4 + 4 * n = omega arith in
     let g : from + 4 * suc i ≡ from + 4 * i + 4 = omega arith in
     rw (signed-there w32 4 refl l (from + 4 * i) b (omega arith), words-back l b n from (suc i) (omega arith), e, take-add 4 (4 * n) d, drop-drop, g)
+
+-- a loop that writes words: what is still to go is the same at every turn. A law for its start (none), a turn (step) and its end (done)
+module _ (f : ℕ → ℤ) where
+  words-one : (n i : ℕ) → words (run (suc n) i f) ≡ le 4 (ofZ w32 (f i)) ++ words (run n (suc i) f)
+  unfolding words run
+  words-one n i = refl
+
+  pub words-none : (l : List ℕ) (at n : ℕ) → sets l (at + 4 * 0) (words (run (n - 0) 0 f)) ≡ sets l at (words (tabulate n f))
+  words-none l at n = let a : at + 4 * 0 ≡ at = omega arith in let b : n - 0 ≡ n = omega arith in rw (a, b)
+
+  pub words-step : (l r : List ℕ) (at n i : ℕ) (z : ℤ) → i < n → z ≡ f i → sets l (at + 4 * i) (words (run (n - i) i f)) ≡ r
+      → sets (sets l (at + 4 * i) (le 4 (ofZ w32 z))) (at + 4 * (i + 1)) (words (run (n - (i + 1)) (i + 1) f)) ≡ r
+  words-step l r at n i z h q e =
+      let m : n - i ≡ suc (n - (i + 1)) = omega arith in
+      let j : i + 1 ≡ suc i = omega arith in
+      let a : at + 4 * (i + 1) ≡ at + 4 * i + length (le 4 (ofZ w32 (f i))) = omega (arith, length-le 4 (ofZ w32 (f i))) in
+      rw (a, q, ← sets-append l (at + 4 * i) (le 4 (ofZ w32 (f i))) (words (run (n - (i + 1)) (i + 1) f)), j, ← words-one (n - suc i) i)
+      (rw (m, j) at e)
+
+  pub words-done : (l r : List ℕ) (p n i : ℕ) → n ≤ i → sets l p (words (run (n - i) i f)) ≡ r → l ≡ r
+  unfolding words run
+  words-done l r p n i h e = let z : n - i ≡ 0 = omega arith in rw z at e
