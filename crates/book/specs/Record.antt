@@ -41,6 +41,10 @@ tableSize regions services = regions * marketsOf services
 abbrev pub ringSize : ℕ → ℕ → ℕ → ℕ
 ringSize regions services window = tableSize regions services * window
 
+-- a flow and a factor for each region
+abbrev pub linkCount : Book → ℕ
+linkCount b = b .regions
+
 -- "The book record carries 88 sums and 88 period marks, at place 11 × region + market"
 abbrev pub placeOf : ℕ → ℕ → ℕ
 placeOf region market = 11 * region + market

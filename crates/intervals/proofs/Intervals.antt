@@ -1,0 +1,142 @@
+-- What the bytes of a whole interval say, and the bytes that say it. Assumes nothing.
+use mathlib.Core.Path.{_≡_, refl, ap, _∙_}
+use mathlib.Core.List.{List, _++_, append-assoc, append-nil}
+use Prim.Native.Nat.{ℕ, zero, suc, _+_, _-_, _*_, _/_, _%_, _<_, _≤_}
+use native.Mathlib.Nat.{mul-le-mul-right, suc-mul, div-add-mod', mod-lt, div-lt-iff-lt-mul}
+use native.Mathlib.Omega.{arith}
+use lib.IntN.{pos}
+use lib.ListN.{length, getD, take, drop, length-append}
+use lib.Seq.{drop-drop, take-add}
+use mir.Syntax.{w32}
+use mir.Val.{toZ}
+use mir.Facts.{toZ-ofZ}
+use Rattle.laws.specs.Lists.{joined}
+use Rattle.laws.specs.Bytes.{sizeOf}
+use Rattle.laws.proofs.Fields.{length-encode}
+use Rattle.laws.proofs.Lists.{tabulate-same}
+use Rattle.laws.proofs.Joined.{tabulate-list, length-joined, sum-same}
+use Rattle.intervals.specs.Layout.{Interval, headWidths, headLength, regionLength, intervalLength, headRecord, regionRecord, intervalBytes}
+use Rattle.intervals.specs.Record.{recordPlace}
+use Rattle.intervals.specs.Reading.{intervalAt}
+use Rattle.intervals.proofs.Says.{Fits, Bytes, HeadSays, RegionSays, head-says, region-says, head-bytes, region-bytes, region-length}
+
+pub record Says (R M : ℕ) (bytes : List ℕ) (at : ℕ) (v : Interval) : Type 0 where
+  pub room : at + intervalLength R M ≤ length bytes
+  pub head : HeadSays R bytes at v
+  pub regions : (k : ℕ) → k < R → RegionSays M bytes (recordPlace M (at + headLength) k) v k
+
+-- ---- lists one after the other
+pub joined-split : {A : Type 0} (f : ℕ → List A) (a b i : ℕ) → joined (a + b) i f ≡ joined a i f ++ joined b (i + a) f
+unfolding joined
+joined-split f zero b i = let z : 0 + b ≡ b = omega arith in let y : i + 0 ≡ i = omega arith in rw (z, y)
+joined-split f (suc a) b i =
+    let e : suc a + b ≡ suc (a + b) = omega arith in
+    let g : i + suc a ≡ suc i + a = omega arith in
+    rw (e, g, joined-split f a b (suc i), append-assoc (f i) (joined a (suc i) f) (joined b (suc i + a) f))
+
+pub joined-next : {A : Type 0} (f : ℕ → List A) (n i : ℕ) → joined (suc n) (0 + i) f ≡ f i ++ joined n (suc i) f
+unfolding joined
+joined-next f n i = let z : 0 + i ≡ i = omega arith in rw z
+
+pub joined-one : {A : Type 0} (f : ℕ → List A) (i : ℕ) → joined 1 i f ≡ f i
+unfolding joined
+joined-one f i = append-nil (f i)
+
+-- parts of equal size, one behind the other
+pub joined-bytes : (f : ℕ → List ℕ) (size first : ℕ) (bytes : List ℕ) (n k : ℕ) → ((j : ℕ) → k ≤ j → j < k + n → f j ≡ take size (drop (first + j * size) bytes))
+    → joined n k f ≡ take (n * size) (drop (first + k * size) bytes)
+unfolding joined
+joined-bytes f size first bytes zero k h = let z : 0 * size ≡ 0 = omega arith in rw z
+joined-bytes f size first bytes (suc n) k h =
+    let d = drop (first + k * size) bytes in
+    let a : suc n * size ≡ size + n * size = omega (arith, suc-mul n size) in
+    let e : first + suc k * size ≡ first + k * size + size = omega (arith, suc-mul k size) in
+    rw (h k (omega arith) (omega arith), joined-bytes f size first bytes n (suc k) (λ j p q. h j (omega arith) (omega arith)), a, take-add size (n * size) d, drop-drop size (first + k * size) bytes, e)
+
+pub joined-length : (f : ℕ → List ℕ) (size n k : ℕ) → ((j : ℕ) → length (f j) ≡ size) → length (joined n k f) ≡ n * size
+joined-length f size n k h = length-joined f (λ _. size) n k (λ j p q. h j) ∙ sum-same n k size (λ _. size) (λ j l. refl)
+
+module _ (R M : ℕ) (small : R ≤ 8) (few : M ≤ 11) (v : Interval) where
+  abbrev rec : ℕ → List ℕ
+  rec = regionRecord M v
+
+  -- 4. the bytes that say an interval are its bytes
+  module _ (bytes : List ℕ) (b : Bytes bytes) (at : ℕ) where
+    pub says-bytes : Says R M bytes at v → intervalBytes R M v ≡ take (intervalLength R M) (drop at bytes)
+    unfolding intervalBytes
+    says-bytes s =
+        let z : at + 12 + 0 * regionLength M ≡ at + 12 = omega arith in
+        let j = joined-bytes rec (regionLength M) (at + 12) bytes R 0 (λ k p q. region-bytes bytes b (recordPlace M (at + 12) k) M v k (place-room k (omega arith) (s .room)) (s .regions k (omega arith))) in
+        rw (head-bytes bytes b at R v (omega (arith, s .room)) (s .head), j, take-add 12 (R * regionLength M) (drop at bytes), drop-drop 12 at bytes, z)
+      where
+        place-room : (k : ℕ) → k < R → at + intervalLength R M ≤ length bytes → at + 12 + k * regionLength M + regionLength M ≤ length bytes
+        place-room k h r = omega (arith, mul-le-mul-right (regionLength M) h, suc-mul k (regionLength M))
+
+  -- 1. an interval's bytes say it, wherever they stand
+  module _ (f : Fits v) (pre post : List ℕ) where
+    head-length : length (headRecord R v) ≡ 12
+    unfolding headRecord headWidths sizeOf
+    head-length = length-encode headWidths _ refl
+
+    rec-length : (j : ℕ) → length (rec j) ≡ regionLength M
+    rec-length j = region-length M v j
+
+    -- record k, with what stands before and behind it
+    apart : (k : ℕ) → k < R → pre ++ (intervalBytes R M v ++ post) ≡ (pre ++ (headRecord R v ++ joined k 0 rec)) ++ (rec k ++ (joined (R - suc k) (suc k) rec ++ post))
+    unfolding intervalBytes
+    apart k h =
+        let e : R ≡ k + suc (R - suc k) = omega arith in
+        let s : joined R 0 rec ≡ joined k 0 rec ++ (rec k ++ joined (R - suc k) (suc k) rec) = ap (λ (n : ℕ). joined n 0 rec) e ∙ joined-split rec k (suc (R - suc k)) 0 ∙ ap (λ (l : List ℕ). joined k 0 rec ++ l) (joined-next rec (R - suc k) k) in
+        rw s (simp append-assoc)
+
+    place : (k : ℕ) → length (pre ++ (headRecord R v ++ joined k 0 rec)) ≡ recordPlace M (length pre + headLength) k
+    place k =
+        length-append pre (headRecord R v ++ joined k 0 rec)
+        ∙ omega (arith, length-append (headRecord R v) (joined k 0 rec), head-length, joined-length rec (regionLength M) k 0 rec-length)
+
+    all-length : length (intervalBytes R M v) ≡ intervalLength R M
+    unfolding intervalBytes
+    all-length = length-append (headRecord R v) (joined R 0 rec) ∙ omega (arith, head-length, joined-length rec (regionLength M) R 0 rec-length)
+
+    the-head : HeadSays R (pre ++ (intervalBytes R M v ++ post)) (length pre) v
+    unfolding intervalBytes
+    the-head = rw (append-assoc (headRecord R v) (joined R 0 rec) post) (head-says R v (omega arith) f pre (joined R 0 rec ++ post))
+
+    pub bytes-say : Says R M (pre ++ (intervalBytes R M v ++ post)) (length pre) v
+    bytes-say = record {
+      room = omega (arith, length-append pre (intervalBytes R M v ++ post), length-append (intervalBytes R M v) post, all-length);
+      head = the-head;
+      regions = λ k h. rw (apart k h, ← place k) (region-says M v few f k (omega arith) (pre ++ (headRecord R v ++ joined k 0 rec)) (joined (R - suc k) (suc k) rec ++ post));
+    }
+
+-- ---- 2. what is read where the bytes say an interval, its records where `which` says
+module _ (R M : ℕ) (some : 0 < M) (bytes : List ℕ) (at : ℕ) (v : Interval) (f : Fits v) (which : ℕ → ℕ)
+    (head : HeadSays R bytes at v) (regions : (r : ℕ) → r < R → RegionSays M bytes (recordPlace M (at + headLength) (which r)) v r)
+    (p : length (v .prices) ≡ R * M) (m : length (v .marked) ≡ R) (w : length (v .flows) ≡ R) (x : length (v .factors) ≡ R) where
+  pub says-interval : intervalAt R M bytes at which ≡ v
+  says-interval = λ i. record {
+    number = head .number i;
+    kind = head .day i;
+    prices = prices-are i;
+    marked = marked-are i;
+    flows = flows-are i;
+    factors = factors-are i;
+  }
+    where
+      marked-are : intervalAt R M bytes at which .marked ≡ v .marked
+      marked-are = tabulate-same R _ (λ r. getD (v .marked) r 0) (λ r h. regions r h .mark) ∙ tabulate-list 0 (v .marked) R m
+
+      factors-are : intervalAt R M bytes at which .factors ≡ v .factors
+      factors-are = tabulate-same R _ (λ r. getD (v .factors) r 0) (λ r h. regions r h .factor) ∙ tabulate-list 0 (v .factors) R x
+
+      flows-are : intervalAt R M bytes at which .flows ≡ v .flows
+      flows-are = tabulate-same R _ (λ r. getD (v .flows) r (pos 0)) (λ r h. ap (toZ w32) (regions r h .flow) ∙ toZ-ofZ (f .flows r)) ∙ tabulate-list (pos 0) (v .flows) R w
+
+      at-q : (q : ℕ) → q / M * M + q % M ≡ q
+      at-q q = div-add-mod' q M
+
+      prices-are : intervalAt R M bytes at which .prices ≡ v .prices
+      prices-are =
+          tabulate-same (R * M) _ (λ q. getD (v .prices) q (pos 0))
+          (λ q h. regions (q / M) (div-lt-iff-lt-mul some .1 h) .price (q % M) (mod-lt q some) ∙ ap (λ (k : ℕ). getD (v .prices) k (pos 0)) (at-q q))
+          ∙ tabulate-list (pos 0) (v .prices) (R * M) p

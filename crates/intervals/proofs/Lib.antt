@@ -1,0 +1,6 @@
+pub mod Counting
+pub mod Wholes
+pub mod Says
+pub mod Intervals
+pub mod Readings
+pub mod AnyOrder

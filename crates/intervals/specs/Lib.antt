@@ -1,0 +1,4 @@
+pub mod Layout
+pub mod Record
+pub mod AnyOrder
+pub mod Reading
