@@ -88,7 +88,8 @@ fn regions_ok<'a>(
 // The eleven places of a region all of whose markets are used, as in the real market: no place is asked whether it is.
 fn full_row<'a>(sums: &'a [i64; 88], marks: &'a [u8; 88], from: usize) -> bool
     requires { ⌜ from + 11 ≤ 88 ⌝ }
-    ensures { λ x. ⌜ x ≡ allBelow 11 (λ m. placeOk true (getD (now (sums .entry)) (from + m) (pos 0)) (getD (now (marks .entry)) (from + m) 0)) ⌝ }
+    ensures { λ x. ⌜ (let sum = getD (now (sums .entry)) in let mark = getD (now (marks .entry)) in
+        x ≡ allBelow 11 (λ m. placeOk true (sum (from + m) (pos 0)) (mark (from + m) 0))) ⌝ }
 {
     let mut ok = true;
     let mut m: usize = 0;

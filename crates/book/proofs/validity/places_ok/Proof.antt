@@ -1,4 +1,4 @@
--- `book::validity::places_ok` meets its contract. The loop's invariant: the regions passed, eleven places each, pass the test. Assumes nothing.
+-- `book::validity::places_ok` meets its contract. The loop's invariant: the regions passed, eleven places each, pass. Assumes nothing.
 use mathlib.Core.Path.{_≡_, refl, sym, ap, _∙_}
 use mathlib.Core.Bool.{Bool, true, false, _&&_}
 use mathlib.Core.List.{List}
@@ -56,7 +56,8 @@ returns c =
     let l = c .before .before .before .loop in
     let w = c .before .row-ok in
     failed (11 * (l .r + 1)) 88 (tested (a .regions) (a .services) (a .sums .now) (a .marks .now)) (omega arith)
-    (sym (not-true (w .result) (c .if1 .taken)) ∙ row-step (a .regions) (a .services) (a .sums .now) (a .marks .now) (l .r) (w .result) (l .inv .1) (w .ensures))
+    (sym (not-true (w .result) (c .if1 .taken))
+    ∙ row-step (a .regions) (a .services) (a .sums .now) (a .marks .now) (l .r) (w .result) (l .inv .1) (w .ensures))
 
 add-r : tie.Need-add-r Inv-loop μ-loop
 add-r c = omega arith
@@ -68,8 +69,11 @@ loop-again : tie.Need-loop-again Inv-loop μ-loop
 loop-again c =
     let a = c .before .before .before .before .args in
     let l = c .before .before .before .loop in
-    let w = c .before .row-ok in
-    (omega arith, sym (not-false (w .result) (c .if1 .left)) ∙ row-step (a .regions) (a .services) (a .sums .now) (a .marks .now) (l .r) (w .result) (l .inv .1) (w .ensures))
+    let w = c .before .row-ok in (
+      omega arith,
+      sym (not-false (w .result) (c .if1 .left))
+          ∙ row-step (a .regions) (a .services) (a .sums .now) (a .marks .now) (l .r) (w .result) (l .inv .1) (w .ensures),
+    )
 
 returns-2 : tie.Need-returns-2 Inv-loop μ-loop
 returns-2 c = let e : c .before .loop .r ≡ 8 = omega arith in rw e at (c .before .loop .inv .1)

@@ -26,11 +26,13 @@ abbrev μ-loop : tie.MeasureT-loop
 μ-loop used services sums marks from ok₀ m₀ ok m = 11 - m
 
 -- a row of which every place is used
-all-used : (used : Bool) (services : ℕ) (t : Bool → ℕ → Bool) → (used && leb 10 services) ≡ true → allBelow 11 (t true) ≡ allBelow 11 (λ m. t (used && leb m services) m)
+all-used : (used : Bool) (services : ℕ) (t : Bool → ℕ → Bool) → (used && leb 10 services) ≡ true
+    → allBelow 11 (t true) ≡ allBelow 11 (λ m. t (used && leb m services) m)
 all-used used services t h =
     let u : used ≡ true = and-left used (leb 10 services) h in
     let n : 10 ≤ services = leb-true 10 services (and-right used (leb 10 services) h) in
-    all-same 11 (t true) (λ m. t (used && leb m services) m) (λ m l. let e : leb m services ≡ true = le-leb m services (omega arith) in rw (u, e) refl)
+    all-same 11 (t true) (λ m. t (used && leb m services) m)
+    (λ m l. let e : leb m services ≡ true = le-leb m services (omega arith) in rw (u, e) refl)
 
 full-row-requires : tie.Need-full-row-requires Inv-loop μ-loop
 full-row-requires c κs = search needs
@@ -38,7 +40,10 @@ full-row-requires c κs = search needs
 returns : tie.Need-returns Inv-loop μ-loop
 returns c =
     let a = c .before .before .args in
-    c .full-row .ensures ∙ all-used (a .used) (a .services) (λ u m. placeOk u (getD (a .sums .now) (a .from + m) (pos 0)) (getD (a .marks .now) (a .from + m) 0)) (c .before .if1 .taken)
+    c .full-row .ensures
+    ∙ all-used (a .used) (a .services)
+    (λ u m. placeOk u (getD (a .sums .now) (a .from + m) (pos 0)) (getD (a .marks .now) (a .from + m) 0))
+    (c .before .if1 .taken)
 
 loop-holds : tie.Need-loop-holds Inv-loop μ-loop
 loop-holds c = (omega arith, allBelow-none _)

@@ -19,7 +19,8 @@ use Rattle.counting.proofs.periods.marks_after.Tie as tie
 
 abbrev Inv-loop : tie.InvT-loop
 Inv-loop n threshold last sums marks k₀ after k =
-    (k ≤ n) × (length marks ≡ 88) × (length after ≡ 88) × (after ≡ tabulate k (λ q. markAfter (toZ w64 threshold) last (getD sums q (pos 0)) (getD marks q 0)) ++ drop k marks)
+    (k ≤ n) × (length marks ≡ 88) × (length after ≡ 88)
+    × (after ≡ tabulate k (λ q. markAfter (toZ w64 threshold) last (getD sums q (pos 0)) (getD marks q 0)) ++ drop k marks)
 
 abbrev μ-loop : tie.MeasureT-loop
 μ-loop n threshold last sums marks k₀ after k = n - k
@@ -54,10 +55,13 @@ loop-again c =
     let t = toZ w64 (ofZ w64 (a .threshold)) in
     let p : Turned t (a .last) (a .sums .now) (a .marks) (l .k) (c .if1 .after) =
     ⊎-elim
-    (λ w. raised t (a .last) (a .sums .now) (a .marks) (l .k) (l .after) (c .if1 .after) (l .inv .2) (l .inv .3) (omega arith) (rw (toZ-ofZ f) at (w .0 .taken)) (w .1))
+    (λ w. raised t (a .last) (a .sums .now) (a .marks) (l .k) (l .after) (c .if1 .after)
+    (l .inv .2) (l .inv .3) (omega arith) (rw (toZ-ofZ f) at (w .0 .taken)) (w .1))
     (⊎-elim
-    (λ w. released t (a .last) (a .sums .now) (a .marks) (l .k) (l .after) (c .if1 .after) (l .inv .2) (l .inv .3) (omega arith) (rw (toZ-ofZ f) at (w .0 .left)) (w .1 .taken) (w .2))
-    (λ w. stayed t (a .last) (a .sums .now) (a .marks) (l .k) (l .after) (c .if1 .after) (l .inv .2) (l .inv .3) (omega arith) (rw (toZ-ofZ f) at (w .0 .left)) (w .1 .left) (w .2)))
+    (λ w. released t (a .last) (a .sums .now) (a .marks) (l .k) (l .after) (c .if1 .after)
+    (l .inv .2) (l .inv .3) (omega arith) (rw (toZ-ofZ f) at (w .0 .left)) (w .1 .taken) (w .2))
+    (λ w. stayed t (a .last) (a .sums .now) (a .marks) (l .k) (l .after) (c .if1 .after)
+    (l .inv .2) (l .inv .3) (omega arith) (rw (toZ-ofZ f) at (w .0 .left)) (w .1 .left) (w .2)))
     (c .if1 .came) in
     (omega arith, l .inv .1, p .0, p .1)
 
