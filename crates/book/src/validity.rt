@@ -1,7 +1,7 @@
 // Rule 10: whether a book is one that a call may take. The loops read numbers and lent arrays, never the whole book.
 use crate::record::Book;
 ghost use mathlib.Core.Path.{_≡_};
-ghost use mathlib.Core.Bool.{_&&_};
+ghost use mathlib.Core.Bool.{true, _&&_};
 ghost use Prim.Native.Nat.{_+_, _≤_};
 ghost use lib.Dec.{leb};
 ghost use lib.IntN.{pos};
@@ -85,6 +85,21 @@ fn regions_ok<'a>(
     ok
 }
 
+// The eleven places of a region all of whose markets are used, as in the real market: no place is asked whether it is.
+fn full_row<'a>(sums: &'a [i64; 88], marks: &'a [u8; 88], from: usize) -> bool
+    requires { ⌜ from + 11 ≤ 88 ⌝ }
+    ensures { λ x. ⌜ (let sum = getD (now (sums .entry)) in let mark = getD (now (marks .entry)) in
+        x ≡ allBelow 11 (λ m. placeOk true (sum (from + m) (pos 0)) (mark (from + m) 0))) ⌝ }
+{
+    let mut ok = true;
+    let mut m: usize = 0;
+    while m < 11 {
+        ok = ok & place_ok(true, sums[from + m], marks[from + m]);
+        m += 1;
+    }
+    ok
+}
+
 // The eleven places of a region, which start at 11 × region.
 fn row_ok<'a>(
     used: bool,
@@ -96,6 +111,9 @@ fn row_ok<'a>(
     requires { ⌜ from + 11 ≤ 88 ⌝ }
     ensures { λ x. ⌜ x ≡ allBelow 11 (λ m. placeOk (used && leb m services) (getD (now (sums .entry)) (from + m) (pos 0)) (getD (now (marks .entry)) (from + m) 0)) ⌝ }
 {
+    if used & (10 <= services) {
+        return full_row(sums, marks, from);
+    }
     let mut ok = true;
     let mut m: usize = 0;
     while m < 11 {
@@ -108,13 +126,14 @@ fn row_ok<'a>(
 fn places_ok<'a>(regions: usize, services: usize, sums: &'a [i64; 88], marks: &'a [u8; 88]) -> bool
     ensures { λ x. ⌜ x ≡ placesOk regions services (now (sums .entry)) (now (marks .entry)) ⌝ }
 {
-    let mut ok = true;
     let mut r: usize = 0;
     while r < 8 {
-        ok = ok & row_ok(r < regions, services, sums, marks, 11 * r);
+        if !row_ok(r < regions, services, sums, marks, 11 * r) {
+            return false;
+        }
         r += 1;
     }
-    ok
+    true
 }
 
 // Whether a call may take the book: any value of the record may be lent.

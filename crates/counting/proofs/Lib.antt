@@ -1,4 +1,5 @@
 pub mod Picks
 mod Moves
+mod Marks
 mod Stages
 mod Takings

@@ -3,7 +3,7 @@ ghost use mathlib.Core.Path.{_≡_};
 ghost use mathlib.Core.Bool.{Bool};
 ghost use Prim.Native.Nat.{_+_, _<_, _≤_};
 ghost use Rattle.laws.specs.Base.{pick};
-ghost use Rattle.counting.specs.Periods.{lastOfDay, markAfter};
+ghost use Rattle.counting.specs.Periods.{lastOfDay};
 ghost use Rattle.counting.specs.Working.{marksBy};
 
 // Whether a position is a day's last.
@@ -20,17 +20,8 @@ pub fn position_after(last: bool, position: u16) -> u16
     if last { 0 } else { position + 1 }
 }
 
-// The mark of a market: above the threshold, or else at a day's end, or else as before.
-fn mark_after(threshold: i64, last: bool, sum: i64, mark: u8) -> u8
-    ensures { λ r. ⌜ r ≡ markAfter threshold last sum mark ⌝ }
-{
-    if threshold < sum {
-        return 1;
-    }
-    if last { 0 } else { mark }
-}
-
-// The marks, those at the first `n` places anew. An unused place has sum and mark 0, and its mark stays.
+// The marks, those at the first `n` places anew: above the threshold, or else at a day's end, or else as before. An unused place
+// has sum and mark 0, and its mark stays. Only what changes is written, since most marks stay.
 pub fn marks_after(
     n: usize,
     threshold: i64,
@@ -44,7 +35,11 @@ pub fn marks_after(
     let mut after = marks;
     let mut k: usize = 0;
     while k < n {
-        after[k] = mark_after(threshold, last, sums[k], marks[k]);
+        if threshold < sums[k] {
+            after[k] = 1;
+        } else if last {
+            after[k] = 0;
+        }
         k += 1;
     }
     after
