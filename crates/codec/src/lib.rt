@@ -5,7 +5,7 @@ ghost use lib.ListN.{length};
 ghost use lib.Seq.{sets};
 ghost use mir.Syntax.{w32, w64};
 ghost use mir.Val.{ofZ, toZ};
-ghost use Rattle.laws.specs.Bytes.{le, numberAt, words};
+ghost use Rattle.laws.specs.Bytes.{le, numberAt, words, priceAt};
 ghost use Rattle.laws.specs.Lists.{tabulate, placesOf};
 
 // The number in `width` bytes from a place.
@@ -129,7 +129,7 @@ pub fn get_word(bytes: &[u8], at: usize) -> i32
 // `n` signed numbers from `at`, four bytes each, put into `numbers` from `to`.
 pub fn get_words(bytes: &[u8], at: usize, n: usize, numbers: &mut [i32], to: usize)
     requires { ⌜ (at + 4 * n ≤ length (now bytes)) × (to + n ≤ length (now numbers)) ⌝ }
-    ensures { λ _. ⌜ now (numbers .exit) ≡ sets (now (numbers .entry)) to (tabulate n (λ i. toZ w32 (numberAt (now (bytes .entry)) (at + 4 * i) 4))) ⌝ }
+    ensures { λ _. ⌜ now (numbers .exit) ≡ sets (now (numbers .entry)) to (tabulate n (priceAt (now (bytes .entry)) at)) ⌝ }
 {
     let mut i: usize = 0;
     while i < n {
@@ -166,7 +166,8 @@ pub fn put_words(bytes: &mut [u8], at: usize, numbers: &[i32], from: usize, n: u
 // `n` numbers from `at`, four bytes each, put into `numbers` from `to`.
 pub fn get_numbers(bytes: &[u8], at: usize, n: usize, numbers: &mut [u32], to: usize)
     requires { ⌜ (at + 4 * n ≤ length (now bytes)) × (to + n ≤ length (now numbers)) ⌝ }
-    ensures { λ _. ⌜ now (numbers .exit) ≡ sets (now (numbers .entry)) to (tabulate n (λ i. numberAt (now (bytes .entry)) (at + 4 * i) 4)) ⌝ }
+    ensures { λ _. ⌜ (let bytes = now (bytes .entry) in
+        now (numbers .exit) ≡ sets (now (numbers .entry)) to (tabulate n (λ i. numberAt bytes (at + 4 * i) 4))) ⌝ }
 {
     let mut i: usize = 0;
     while i < n {
