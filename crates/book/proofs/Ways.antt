@@ -12,7 +12,7 @@ use Rattle.pricing.specs.Holding.{limitsOk}
 use Rattle.book.specs.declared.record.Book.{Book}
 use Rattle.book.specs.declared.record.Settings.{Settings}
 use Rattle.book.specs.declared.record.Refusal.{Refusal}
-use Rattle.book.specs.declared.record.Refusal.the-variants.{Invalid, Length, Full, Number, Kind, Mark, Price, Factor, Threshold, Limits, Setting, Market, Sums, Buffer, ImageLength, ImageKind, ImageField, ImageTotal}
+use Rattle.book.specs.declared.record.Refusal.the-variants.{Invalid, Length, Full, Number, Kind, Mark, Price, Factor, Threshold, Limits, Setting, Market, Sums, Buffer, ImageLength, ImageKind, ImageField, ImageTotal, Broken, RecordKind, RecordRegion}
 use Rattle.book.specs.declared.record.Answer.{Answer}
 use Rattle.book.specs.declared.record.Answer.the-variants.{Accepted, Refused}
 use Rattle.book.specs.Record.{closed, ringSize, verdictOf, verdict, isAccepted}
@@ -80,6 +80,9 @@ refusal-is ImageLength = refl
 refusal-is ImageKind = refl
 refusal-is ImageField = refl
 refusal-is ImageTotal = refl
+refusal-is Broken = refl
+refusal-is RecordKind = refl
+refusal-is RecordRegion = refl
 
 module _ (s : Settings) (ring : List ℤ) (a : Answer) (h : verdict a ≡ openVerdict s (length ring)) (b : Book) where
   pub opened-refused : (r : Refusal) → a ≡ Refused r → b ≡ closed → outcome (record { book = b; answer = a }) ring ≡ opened s ring

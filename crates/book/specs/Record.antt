@@ -8,7 +8,7 @@ use lib.ListN.{replicate}
 use Rattle.pricing.specs.Verdict.{Verdict, accepted, refused, refusedAt}
 use Rattle.book.specs.declared.record.Book.{Book}
 use Rattle.book.specs.declared.record.Refusal.{Refusal}
-use Rattle.book.specs.declared.record.Refusal.the-variants.{Invalid, Length, Full, Number, Kind, Mark, Price, Factor, Threshold, Limits, Setting, Market, Sums, Buffer, ImageLength, ImageKind, ImageField, ImageTotal}
+use Rattle.book.specs.declared.record.Refusal.the-variants.{Invalid, Length, Full, Number, Kind, Mark, Price, Factor, Threshold, Limits, Setting, Market, Sums, Buffer, ImageLength, ImageKind, ImageField, ImageTotal, Broken, RecordKind, RecordRegion}
 use Rattle.book.specs.declared.record.Answer.{Answer}
 use Rattle.book.specs.declared.record.Answer.the-variants.{Accepted, Refused}
 
@@ -49,7 +49,7 @@ linkCount b = b .regions
 abbrev pub placeOf : ℕ → ℕ → ℕ
 placeOf region market = 11 * region + market
 
--- the number of each refusal in document 01, and its place
+-- the number of each refusal in documents 01 and 02, and its place
 abbrev pub verdictOf : Refusal → Verdict
 verdictOf Invalid = refused 10
 verdictOf Length = refused 11
@@ -69,6 +69,9 @@ verdictOf ImageLength = refused 24
 verdictOf ImageKind = refused 25
 verdictOf ImageField = refused 26
 verdictOf ImageTotal = refused 27
+verdictOf Broken = refused 40
+verdictOf RecordKind = refused 41
+verdictOf RecordRegion = refused 42
 
 abbrev pub verdict : Answer → Verdict
 verdict Accepted = accepted

@@ -56,6 +56,9 @@ pub enum Refusal {
     ImageKind,
     ImageField,
     ImageTotal,
+    Broken,
+    RecordKind,
+    RecordRegion,
 }
 
 // What a call that answers nothing else says.
@@ -109,6 +112,9 @@ pub fn number(refusal: Refusal) -> u32
         Refusal::ImageKind => 25,
         Refusal::ImageField => 26,
         Refusal::ImageTotal => 27,
+        Refusal::Broken => 40,
+        Refusal::RecordKind => 41,
+        Refusal::RecordRegion => 42,
     }
 }
 
