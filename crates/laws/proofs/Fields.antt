@@ -1,5 +1,5 @@
 -- Laws of fields of given widths, one after the other: read back, written back, and the loop that writes them. Assumes nothing.
-use mathlib.Core.Path.{_≡_, refl, ap, _∙_}
+use mathlib.Core.Path.{_≡_, refl, sym, ap, _∙_}
 use mathlib.Core.List.{List, [], _∷_, _++_, append-assoc}
 use Prim.Native.Nat.{ℕ, zero, suc, _+_, _^_, _≤_, _<_}
 use native.Mathlib.Nat.{not-suc-le-zero}
@@ -68,6 +68,10 @@ decode-drop [] l zero = refl
 decode-drop [] l (suc j) = refl
 decode-drop (w ∷ ws) l zero = refl
 decode-drop (w ∷ ws) l (suc j) = decode-drop ws (drop w l) j ∙ rw drop-drop
+
+-- ---- one part stored behind the other
+pub part-then : (l m n xs ys : List ℕ) (at p : ℕ) → p ≡ at + length xs → m ≡ sets l at xs → n ≡ sets m p ys → n ≡ sets l at (xs ++ ys)
+part-then l m n xs ys at p e f g = rw (g, f, e) (sym (sets-append l at xs ys))
 
 -- ---- the loop that writes them: what is still to go is the same at every turn
 pub fields-step : (ws vs l r : List ℕ) (at j w v : ℕ) → j < length ws → j < length vs → w ≡ getD ws j 0 → v ≡ getD vs j 0 → sets l at (encode (drop j ws) (drop j vs)) ≡ r → sets (sets l at (le w v)) (at + w) (encode (drop (j + 1) ws) (drop (j + 1) vs)) ≡ r

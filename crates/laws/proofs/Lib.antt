@@ -10,3 +10,4 @@ pub mod Fields
 pub mod Tables
 pub mod Joined
 pub mod Words
+pub mod Rows

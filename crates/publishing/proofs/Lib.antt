@@ -1,5 +1,4 @@
 pub mod Places
-pub mod Rows
 pub mod Limits
 pub mod Regions
 pub mod Crossing

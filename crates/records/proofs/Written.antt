@@ -1,5 +1,5 @@
 -- Laws of the records of answers: their parts put one after the other, and how long they are. Assumes nothing.
-use mathlib.Core.Path.{_≡_, refl, sym, ap, _∙_}
+use mathlib.Core.Path.{_≡_, refl, ap, _∙_}
 use mathlib.Core.List.{List, _++_}
 use Prim.Native.Nat.{ℕ, _+_, _*_}
 use native.Mathlib.Omega.{arith}
@@ -10,16 +10,13 @@ use mir.Syntax.{w64}
 use mir.Val.{ofZ}
 use Rattle.laws.specs.Lists.{placesOf}
 use Rattle.laws.specs.Bytes.{le, words}
-use Rattle.laws.proofs.Bytes.{sets-append, length-le}
+use Rattle.laws.proofs.Bytes.{length-le}
+use Rattle.laws.proofs.Fields.{part-then}
 use Rattle.laws.proofs.Joined.{places-whole}
 use Rattle.laws.proofs.Words.{length-words}
 use Rattle.pricing.specs.Verdict.{Verdict}
 use Rattle.book.specs.Report.{Numbers}
 use Rattle.records.specs.Writing.{headOf, entryRecord, valuesOf, reportRecord}
-
--- ---- one part after the other
-pub part-then : (l m n xs ys : List ℕ) (at p : ℕ) → p ≡ at + length xs → m ≡ sets l at xs → n ≡ sets m p ys → n ≡ sets l at (xs ++ ys)
-part-then l m n xs ys at p e f g = rw (g, f, e) (sym (sets-append l at xs ys))
 
 -- four numbers of these widths
 module _ (a b c d x y z u : ℕ) (l k m n o : List ℕ) (at p q r : ℕ) where

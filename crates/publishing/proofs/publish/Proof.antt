@@ -13,7 +13,7 @@ use Rattle.laws.specs.Lists.{run, countBelow}
 use Rattle.publishing.specs.Entry.{entryOf}
 use Rattle.publishing.specs.Published.{publishedAt, changedAt}
 use Rattle.publishing.proofs.Places.{rows-small, count-fits}
-use Rattle.publishing.proofs.Rows.{rows-none, rows-step, rows-done, counts-none, counts-step}
+use Rattle.laws.proofs.Rows.{rows-none, rows-step, rows-done, counts-none, counts-step}
 use Rattle.publishing.proofs.Limits.{read-is}
 use Rattle.publishing.proofs.Regions.{prices-are, count-is}
 use Rattle.publishing.proofs.publish.Statement.{statement}
