@@ -9,12 +9,12 @@ use Rattle.laws.specs.Bytes.{le, number, numberAt, encode, words}
 use Rattle.pricing.specs.Verdict.{Verdict, accepted, refused}
 use Rattle.book.specs.declared.record.Book.{Book}
 use Rattle.book.specs.Validity.{valid}
-use Rattle.intervals.specs.Layout.{Interval, intervalOf, headWidths, regionWidths, headRecord, regionRecord, intervalBytes}
-use Rattle.intervals.specs.Record.{whole, dueVerdict, headVerdict, firstRefusal}
-use Rattle.intervals.specs.AnyOrder.{regionVerdict, recordsVerdict}
+use Rattle.interval_records.specs.Layout.{Interval, intervalOf, headWidths, regionWidths, headRecord, regionRecord, intervalBytes}
+use Rattle.interval_records.specs.Record.{whole, dueVerdict, headVerdict, firstRefusal}
+use Rattle.interval_records.specs.AnyOrder.{regionVerdict, recordsVerdict}
 use Rattle.intervals.specs.Reading.{readVerdict, readInterval}
 use Rattle.intervals.specs.Reading as Reading
-use Rattle.interval_writer.specs.Writing.{writeVerdict, writeInterval}
+use Rattle.interval_writer.specs.Writing.{writeLengths, writeInterval}
 
 abbrev two : Book
 two = record {
@@ -88,9 +88,9 @@ twice-42 = refl
 
 -- into 55 bytes and into 51
 written : writeInterval two said (replicate 55 7) ≡ record { verdict = accepted; length = 52; book = two; buffer = upward ++ (7 ∷ 7 ∷ 7 ∷ []) }
-unfolding writeInterval writeVerdict valid allBelow intervalBytes headRecord regionRecord headWidths regionWidths encode le words joined run
+unfolding writeInterval writeLengths valid allBelow intervalBytes headRecord regionRecord headWidths regionWidths encode le words joined run
 written = refl
 
 short-23 : writeInterval two said (replicate 51 7) ≡ record { verdict = refused 23; length = 0; book = two; buffer = replicate 51 7 }
-unfolding writeInterval writeVerdict valid allBelow
+unfolding writeInterval writeLengths valid allBelow
 short-23 = refl

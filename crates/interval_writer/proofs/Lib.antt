@@ -1,2 +1,4 @@
 pub mod RoundTrips
 pub mod Cases
+pub mod Writes
+pub mod Places

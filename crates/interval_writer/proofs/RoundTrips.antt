@@ -1,59 +1,35 @@
 -- Both round trips of interval records, for every book, interval, buffer and lent slice. Assumes nothing.
 use mathlib.Core.Path.{_≡_, refl, _∙_}
-use mathlib.Core.Bool.{Bool, true, _&&_}
+use mathlib.Core.Bool.{true}
 use mathlib.Core.List.{List, [], _++_}
 use Prim.Native.Nat.{ℕ, zero, suc, _+_, _*_, _/_, _%_, _<_, _≤_}
 use native.Mathlib.Nat.{mul-le-mul-right, suc-mul, div-lt-iff-lt-mul}
 use native.Mathlib.Omega.{arith}
-use borrow.Author.Tests.{eq-eqb, eqb-true, le-ltb, ltb-false}
-use lib.Dec.{eqb, ltb}
+use borrow.Author.Tests.{eq-eqb, le-ltb}
 use lib.ListN.{length, take, drop}
 use mir.Syntax.{w32}
 use mir.Val.{toZ}
 use Rattle.laws.specs.Bytes.{numberAt}
-use Rattle.laws.proofs.Tests.{and-left, and-right, by-test, never, true-is}
+use Rattle.laws.proofs.Tests.{by-test, never, true-is}
 use Rattle.laws.proofs.Lists.{length-run, tabulate-same}
 use Rattle.pricing.specs.Verdict.{accepted}
 use Rattle.book.specs.declared.record.Book.{Book}
 use Rattle.book.specs.Validity.{valid}
-use Rattle.book.specs.Record.{marketsOf, tableSize, isAccepted}
+use Rattle.book.specs.Record.{marketsOf, isAccepted}
 use Rattle.book.proofs.Validities.{valid-is}
-use Rattle.intervals.specs.Layout.{Interval, headLength, regionLength, lengthFor, intervalBytes}
-use Rattle.intervals.specs.Record.{recordPlace, regionAt}
-use Rattle.intervals.specs.AnyOrder.{recordOf, recordsVerdict}
-use Rattle.intervals.specs.Reading.{slicesOk, readInterval, intervalAt}
+use Rattle.interval_records.specs.Layout.{Interval, headLength, regionLength, lengthFor, intervalBytes}
+use Rattle.interval_records.specs.Record.{recordPlace, regionAt}
+use Rattle.interval_records.specs.AnyOrder.{recordOf, recordsVerdict}
+use Rattle.intervals.specs.Lent.{slicesOk}
+use Rattle.intervals.specs.Reading.{readInterval, intervalAt}
 use Rattle.intervals.specs.Reading as Reading
-use Rattle.intervals.proofs.Says.{Fits, Bytes, RegionSays}
+use Rattle.interval_records.proofs.Says.{Fits, Bytes, RegionSays}
 use Rattle.intervals.proofs.Intervals.{Says, says-interval, says-bytes, bytes-say}
-use Rattle.intervals.proofs.AnyOrder.{Given, given-is, is-given, ordered-given, record-same}
-use Rattle.intervals.proofs.Readings.{Ordered, read-region, read-head}
-use Rattle.interval_writer.specs.Writing.{writeVerdict, writeInterval}
-
--- ---- the parts of the tests
-module _ (b : Book) (v : Interval) (e : slicesOk b v ≡ true) where
-  abbrev p : Bool
-  p = eqb (length (v .prices)) (tableSize (b .regions) (b .services))
-
-  abbrev m : Bool
-  m = eqb (length (v .marked)) (b .regions)
-
-  abbrev f : Bool
-  f = eqb (length (v .flows)) (b .regions)
-
-  abbrev x : Bool
-  x = eqb (length (v .factors)) (b .regions)
-
-  prices-size : length (v .prices) ≡ tableSize (b .regions) (b .services)
-  prices-size = eqb-true _ _ (and-left p m (and-left (p && m) f (and-left (p && m && f) x e)))
-
-  marked-size : length (v .marked) ≡ b .regions
-  marked-size = eqb-true _ _ (and-right p m (and-left (p && m) f (and-left (p && m && f) x e)))
-
-  flows-size : length (v .flows) ≡ b .regions
-  flows-size = eqb-true _ _ (and-right (p && m) f (and-left (p && m && f) x e))
-
-  factors-size : length (v .factors) ≡ b .regions
-  factors-size = eqb-true _ _ (and-right (p && m && f) x e)
+use Rattle.interval_records.proofs.AnyOrder.{Given, given-is, is-given, ordered-given, record-same}
+use Rattle.interval_records.proofs.Heads.{Ordered}
+use Rattle.intervals.proofs.Readings.{read-region, read-head}
+use Rattle.interval_writer.specs.Writing.{writeLengths, writeVerdict, writeInterval}
+use Rattle.interval_writer.proofs.Writes.{Writes, accepted-writes, prices-size, marked-size, flows-size, factors-size}
 
 says-order : (R M : ℕ) (bytes : List ℕ) (at : ℕ) (v : Interval) → Says R M bytes at v → Ordered R M bytes at
 says-order R M bytes at v y = record {
@@ -82,27 +58,17 @@ module _ (b : Book) (ok : valid b ≡ true) where
       let w : (r : ℕ) → r < R → RegionSays M bytes (recordPlace M (at + headLength) (recordOf R M bytes (at + headLength) r)) v r = λ r h. rw (record-same R M bytes at o r h) (y .regions r h) in
       rw (ok, l, is-given R M bytes at (ordered-given R M bytes at o), says-interval R M (omega arith) bytes at v f (recordOf R M bytes (at + headLength)) (y .head) w (prices-size b v s) (marked-size b v s) (flows-size b v s) (factors-size b v s), q)
 
--- what an accepted write has
-pub record Writes (b : Book) (v : Interval) (room : ℕ) : Type 0 where
-  pub book : valid b ≡ true
-  pub slices : slicesOk b v ≡ true
-  pub long : lengthFor b ≤ room
-
 writes : (b : Book) (v : Interval) (buffer : List ℕ) → isAccepted (writeInterval b v buffer .verdict) ≡ true
     → Writes b v (length buffer) × (writeInterval b v buffer ≡ record { verdict = accepted; length = lengthFor b; book = b; buffer = intervalBytes (b .regions) (marketsOf (b .services)) v ++ drop (lengthFor b) buffer })
-unfolding writeInterval writeVerdict
+unfolding writeInterval
 writes b v buffer e =
-    by-test (valid b)
-    (λ a. by-test (slicesOk b v)
-    (λ s. by-test (ltb (length buffer) (lengthFor b))
-    (λ r. absurd (true-is (rw (a, s, r) at e)))
-    (λ r. (record { book = a; slices = s; long = ltb-false _ _ r }, rw (a, s, r))))
-    (λ s. absurd (true-is (rw (a, s) at e))))
-    (λ a. absurd (true-is (rw a at e)))
+    by-test (isAccepted (writeVerdict b v (length buffer)))
+    (λ a. (accepted-writes b v (length buffer) a, rw a refl))
+    (λ a. never (isAccepted (writeVerdict b v (length buffer))) (rw a at e) a)
 
 accepts : (b : Book) (v : Interval) (buffer : List ℕ) → Writes b v (length buffer)
     → writeInterval b v buffer ≡ record { verdict = accepted; length = lengthFor b; book = b; buffer = intervalBytes (b .regions) (marketsOf (b .services)) v ++ drop (lengthFor b) buffer }
-unfolding writeInterval writeVerdict
+unfolding writeInterval writeLengths
 accepts b v buffer w = rw (w .book, w .slices, le-ltb (length buffer) (lengthFor b) (w .long))
 
 read-slices : (b : Book) (bytes : List ℕ) (at : ℕ) (which : ℕ → ℕ) → slicesOk b (intervalAt (b .regions) (marketsOf (b .services)) bytes at which) ≡ true

@@ -12,16 +12,20 @@ use Rattle.book.specs.Validity.{valid}
 use Rattle.interval_writer.specs.declared.writing.Size.{Size}
 use Rattle.interval_writer.specs.declared.writing.Size.the-variants.{Length, Refused}
 use Rattle.interval_writer.specs.declared.writing.Written.{Written}
-use Rattle.intervals.specs.Layout.{Interval, lengthFor, intervalBytes}
-use Rattle.intervals.specs.Reading.{slicesOk}
+use Rattle.interval_records.specs.Layout.{Interval, lengthFor, intervalBytes}
+use Rattle.intervals.specs.Lent.{lengthsOk}
 
 -- "10, 11 and the writer's 23"
-unfoldable pub writeVerdict : Book → Interval → ℕ → Verdict
-writeVerdict b v room =
+unfoldable pub writeLengths : Book → ℕ → ℕ → ℕ → ℕ → ℕ → Verdict
+writeLengths b prices marked flows factors room =
     pick (not (valid b)) (refused 10)
-    (pick (not (slicesOk b v)) (refused 11)
+    (pick (not (lengthsOk b prices marked flows factors)) (refused 11)
     (pick (ltb room (lengthFor b)) (refused 23)
     accepted))
+
+abbrev pub writeVerdict : Book → Interval → ℕ → Verdict
+writeVerdict b v room =
+    writeLengths b (length (v .prices)) (length (v .marked)) (length (v .flows)) (length (v .factors)) room
 
 pub record Outcome : Type 0 where
   pub verdict : Verdict

@@ -1,2 +1,2 @@
-// Interval records written. So far the answer's types and both round trips; the writer follows.
+// Interval records from the plant bus, written.
 pub mod writing;

@@ -15,10 +15,10 @@ use Rattle.laws.specs.Bytes.{sizeOf}
 use Rattle.laws.proofs.Fields.{length-encode}
 use Rattle.laws.proofs.Lists.{tabulate-same}
 use Rattle.laws.proofs.Joined.{tabulate-list, length-joined, sum-same}
-use Rattle.intervals.specs.Layout.{Interval, headWidths, headLength, regionLength, intervalLength, headRecord, regionRecord, intervalBytes}
-use Rattle.intervals.specs.Record.{recordPlace}
+use Rattle.interval_records.specs.Layout.{Interval, headWidths, headLength, regionLength, intervalLength, headRecord, regionRecord, intervalBytes}
+use Rattle.interval_records.specs.Record.{recordPlace}
 use Rattle.intervals.specs.Reading.{intervalAt}
-use Rattle.intervals.proofs.Says.{Fits, Bytes, HeadSays, RegionSays, head-says, region-says, head-bytes, region-bytes, region-length}
+use Rattle.interval_records.proofs.Says.{Fits, Bytes, HeadSays, RegionSays, head-says, region-says, head-bytes, region-bytes, region-length}
 
 pub record Says (R M : ℕ) (bytes : List ℕ) (at : ℕ) (v : Interval) : Type 0 where
   pub room : at + intervalLength R M ≤ length bytes

@@ -1,6 +1,4 @@
-pub mod Counting
-pub mod Wholes
-pub mod Says
 pub mod Intervals
 pub mod Readings
-pub mod AnyOrder
+pub mod Ways
+pub mod Places

@@ -1,4 +1,2 @@
-pub mod Layout
-pub mod Record
-pub mod AnyOrder
+pub mod Lent
 pub mod Reading

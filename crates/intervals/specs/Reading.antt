@@ -1,10 +1,8 @@
 -- Reading an interval from its records. Assumes nothing.
-use mathlib.Core.Bool.{Bool, not, _&&_}
+use mathlib.Core.Bool.{not}
 use mathlib.Core.List.{List}
 use Prim.Native.Nat.{ℕ, _+_, _*_, _/_, _%_}
-use lib.Dec.{eqb}
 use lib.IntN.{ℤ}
-use lib.ListN.{length}
 use mir.Syntax.{w32}
 use mir.Val.{toZ}
 use Rattle.laws.specs.Base.{pick}
@@ -12,35 +10,44 @@ use Rattle.laws.specs.Lists.{tabulate}
 use Rattle.laws.specs.Bytes.{numberAt}
 use Rattle.pricing.specs.Verdict.{Verdict, accepted, refused}
 use Rattle.book.specs.declared.record.Book.{Book}
-use Rattle.book.specs.Record.{marketsOf, tableSize, linkCount, verdictOf, isAccepted}
+use Rattle.book.specs.Record.{marketsOf, verdictOf, isAccepted}
 use Rattle.book.specs.Validity.{valid}
 use Rattle.intervals.specs.declared.reading.Found.{Found}
 use Rattle.intervals.specs.declared.reading.Found.the-variants.{At, Refused}
 use Rattle.intervals.specs.declared.reading.Taken.{Taken}
-use Rattle.intervals.specs.Layout.{Interval, headLength, lengthFor}
-use Rattle.intervals.specs.Record.{recordPlace}
-use Rattle.intervals.specs.AnyOrder.{recordsVerdict, recordOf}
+use Rattle.interval_records.specs.Layout.{Interval, headLength, lengthFor}
+use Rattle.intervals.specs.Lent.{slicesOk}
+use Rattle.interval_records.specs.Record.{recordPlace}
+use Rattle.interval_records.specs.AnyOrder.{recordsVerdict, recordOf}
 
 -- ---- what the records say
--- an interval whose region r is record `which r` of those from a place
+-- "region (1), mark (1), flow (4), factor (4), M prices (4 each)": the numbers of region r, whose record is `which r` of those from `first` on
+abbrev pub markFrom : ℕ → List ℕ → ℕ → (ℕ → ℕ) → ℕ → ℕ
+markFrom markets bytes first which r = numberAt bytes (recordPlace markets first (which r) + 7) 1
+
+abbrev pub flowFrom : ℕ → List ℕ → ℕ → (ℕ → ℕ) → ℕ → ℤ
+flowFrom markets bytes first which r = toZ w32 (numberAt bytes (recordPlace markets first (which r) + 8) 4)
+
+abbrev pub factorFrom : ℕ → List ℕ → ℕ → (ℕ → ℕ) → ℕ → ℕ
+factorFrom markets bytes first which r = numberAt bytes (recordPlace markets first (which r) + 12) 4
+
+-- price q of "R × M prices (region by region)"
+abbrev pub priceFrom : ℕ → List ℕ → ℕ → (ℕ → ℕ) → ℕ → ℤ
+priceFrom markets bytes first which q = toZ w32 (numberAt bytes (recordPlace markets first (which (q / markets)) + 16 + 4 * (q % markets)) 4)
+
+-- an interval whose region r is record `which r` of those behind its head
 abbrev pub intervalAt : ℕ → ℕ → List ℕ → ℕ → (ℕ → ℕ) → Interval
 intervalAt regions markets bytes at which = record {
   number = numberAt bytes (at + 6) 4;
   kind = numberAt bytes (at + 10) 1;
-  prices = tabulate (regions * markets)
-      (λ q. toZ w32 (numberAt bytes (recordPlace markets (at + headLength) (which (q / markets)) + 16 + 4 * (q % markets)) 4));
-  marked = tabulate regions (λ r. numberAt bytes (recordPlace markets (at + headLength) (which r) + 7) 1);
-  flows = tabulate regions (λ r. toZ w32 (numberAt bytes (recordPlace markets (at + headLength) (which r) + 8) 4));
-  factors = tabulate regions (λ r. numberAt bytes (recordPlace markets (at + headLength) (which r) + 12) 4);
+  prices = tabulate (regions * markets) (priceFrom markets bytes (at + headLength) which);
+  marked = tabulate regions (markFrom markets bytes (at + headLength) which);
+  flows = tabulate regions (flowFrom markets bytes (at + headLength) which);
+  factors = tabulate regions (factorFrom markets bytes (at + headLength) which);
 }
 
 -- ---- the call
--- 11: the four slices that are filled
-abbrev pub slicesOk : Book → Interval → Bool
-slicesOk b v =
-    eqb (length (v .prices)) (tableSize (b .regions) (b .services)) && eqb (length (v .marked)) (b .regions)
-    && eqb (length (v .flows)) (linkCount b) && eqb (length (v .factors)) (linkCount b)
-
+-- "10, 11 .. come first; per record 40, 41, 42"
 unfoldable pub readVerdict : Book → Interval → List ℕ → ℕ → Verdict
 readVerdict b lent bytes at =
     pick (not (valid b)) (refused 10)

@@ -1,2 +1,3 @@
-// Interval records from the plant bus, read: an entry, its schedule aside. So far the answer's types and the theory; the reader follows.
+// Interval records from the plant bus, read: an entry, its schedule aside.
+pub mod lent;
 pub mod reading;

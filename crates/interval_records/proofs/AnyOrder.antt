@@ -13,12 +13,12 @@ use Rattle.laws.proofs.Tests.{by-test, never, true-is}
 use Rattle.laws.proofs.Lists.{any-at, firstOf-found}
 use Rattle.pricing.specs.Verdict.{accepted}
 use Rattle.book.specs.Record.{isAccepted}
-use Rattle.intervals.specs.Layout.{headLength}
-use Rattle.intervals.specs.Record.{dueVerdict, headVerdict, recordPlace, regionAt}
-use Rattle.intervals.specs.AnyOrder.{stray, regionVerdict, recordsVerdict, recordOf}
-use Rattle.intervals.proofs.Counting.{found}
-use Rattle.intervals.proofs.Wholes.{Due, due-accepted, accepted-due, all-accepted, accepted-all}
-use Rattle.intervals.proofs.Readings.{Ordered, head-is, is-head}
+use Rattle.interval_records.specs.Layout.{headLength}
+use Rattle.interval_records.specs.Record.{dueVerdict, headVerdict, recordPlace, regionAt}
+use Rattle.interval_records.specs.AnyOrder.{stray, regionVerdict, recordsVerdict, recordOf}
+use Rattle.interval_records.proofs.Counting.{found}
+use Rattle.interval_records.proofs.Wholes.{Due, due-accepted, accepted-due, all-accepted, accepted-all}
+use Rattle.interval_records.proofs.Heads.{Ordered, head-is, is-head}
 
 -- the first number that passes, where one does, passes
 pub first-passes : (n : ℕ) (t : ℕ → Bool) → firstOf n t < n → t (firstOf n t) ≡ true
@@ -33,6 +33,27 @@ neither true true e = absurd (true-is e)
 neither true false e = (refl, refl)
 neither false b e = absurd (true-is e)
 
+-- one region's record
+module _ (R M : ℕ) (bytes : List ℕ) (first k : ℕ) where
+  abbrev given-before : Bool
+  given-before = anyBelow k (λ j. eqb (regionAt M bytes first j) (regionAt M bytes first k))
+
+  pub region-is : isAccepted (regionVerdict R M bytes first k) ≡ true
+      → Due 17 M bytes (recordPlace M first k) × (regionAt M bytes first k < R) × (given-before ≡ false)
+  unfolding regionVerdict
+  region-is e =
+      by-test (isAccepted (dueVerdict 17 M bytes (recordPlace M first k)))
+      (λ a. by-test (stray R M bytes first k)
+      (λ s. absurd (true-is (rw (a, s) at e)))
+      (λ s. let n = neither (ltb (regionAt M bytes first k) R) given-before (ap not s) in
+      (accepted-due 17 M (omega arith) bytes (recordPlace M first k) a, ltb-true _ _ (n .0), n .1)))
+      (λ a. never (isAccepted (dueVerdict 17 M bytes (recordPlace M first k))) (rw a at e) a)
+
+  is-region : Due 17 M bytes (recordPlace M first k) → regionAt M bytes first k < R → given-before ≡ false
+      → regionVerdict R M bytes first k ≡ accepted
+  unfolding regionVerdict
+  is-region d l n = rw (due-accepted 17 M (omega arith) bytes (recordPlace M first k) d, lt-ltb (regionAt M bytes first k) R l, n)
+
 module _ (R M : ℕ) (bytes : List ℕ) (at : ℕ) where
   abbrev region : ℕ → ℕ
   region k = regionAt M bytes (at + headLength) k
@@ -44,27 +65,12 @@ module _ (R M : ℕ) (bytes : List ℕ) (at : ℕ) where
     pub below : (k : ℕ) → k < R → region k < R
     pub new : (k : ℕ) → k < R → anyBelow k (λ j. eqb (region j) (region k)) ≡ false
 
-  region-is : (k : ℕ) → isAccepted (regionVerdict R M bytes (at + headLength) k) ≡ true
-      → Due 17 M bytes (recordPlace M (at + headLength) k) × (region k < R) × (anyBelow k (λ j. eqb (region j) (region k)) ≡ false)
-  unfolding regionVerdict
-  region-is k e =
-      by-test (isAccepted (dueVerdict 17 M bytes (recordPlace M (at + headLength) k)))
-      (λ a. by-test (stray R M bytes (at + headLength) k)
-      (λ s. absurd (true-is (rw (a, s) at e)))
-      (λ s. let n = neither (ltb (region k) R) (anyBelow k (λ j. eqb (region j) (region k))) (ap not s) in
-      (accepted-due 17 M (omega arith) bytes (recordPlace M (at + headLength) k) a, ltb-true _ _ (n .0), n .1)))
-      (λ a. never (isAccepted (dueVerdict 17 M bytes (recordPlace M (at + headLength) k))) (rw a at e) a)
-
-  is-region : (k : ℕ) → Due 17 M bytes (recordPlace M (at + headLength) k) → region k < R → anyBelow k (λ j. eqb (region j) (region k)) ≡ false → regionVerdict R M bytes (at + headLength) k ≡ accepted
-  unfolding regionVerdict
-  is-region k d l n = rw (due-accepted 17 M (omega arith) bytes (recordPlace M (at + headLength) k) d, lt-ltb (region k) R l, n)
-
   pub given-is : isAccepted (recordsVerdict R M bytes at) ≡ true → Given
   unfolding recordsVerdict
   given-is e =
       by-test (isAccepted (headVerdict R M bytes at))
       (λ a. let h = head-is R M bytes at a in
-      let r : (k : ℕ) → k < R → Due 17 M bytes (recordPlace M (at + headLength) k) × (region k < R) × (anyBelow k (λ j. eqb (region j) (region k)) ≡ false) = λ k l. region-is k (accepted-all R 0 (regionVerdict R M bytes (at + headLength)) (rw a at e) k (omega arith) (omega arith)) in
+      let r : (k : ℕ) → k < R → Due 17 M bytes (recordPlace M (at + headLength) k) × (region k < R) × (anyBelow k (λ j. eqb (region j) (region k)) ≡ false) = λ k l. region-is R M bytes (at + headLength) k (accepted-all R 0 (regionVerdict R M bytes (at + headLength)) (rw a at e) k (omega arith) (omega arith)) in
       record { head = h .0; total = h .1; due = λ k l. r k l .0; below = λ k l. r k l .1; new = λ k l. r k l .2 })
       (λ a. never (isAccepted (headVerdict R M bytes at)) (rw a at e) a)
 
@@ -72,7 +78,7 @@ module _ (R M : ℕ) (bytes : List ℕ) (at : ℕ) where
   unfolding recordsVerdict
   is-given g =
       rw (is-head R M bytes at (g .head) (g .total))
-      (all-accepted R 0 (regionVerdict R M bytes (at + headLength)) (λ k a l. is-region k (g .due k (omega arith)) (g .below k (omega arith)) (g .new k (omega arith))))
+      (all-accepted R 0 (regionVerdict R M bytes (at + headLength)) (λ k a l. is-region R M bytes (at + headLength) k (g .due k (omega arith)) (g .below k (omega arith)) (g .new k (omega arith))))
 
   -- each region's record
   module _ (g : Given) (r : ℕ) (h : r < R) where

@@ -7,8 +7,8 @@ use Rattle.laws.specs.Base.{pick}
 use Rattle.laws.specs.Lists.{anyBelow, firstOf}
 use Rattle.pricing.specs.Verdict.{Verdict, accepted, refused}
 use Rattle.book.specs.Record.{isAccepted}
-use Rattle.intervals.specs.Layout.{headLength}
-use Rattle.intervals.specs.Record.{dueVerdict, headVerdict, recordPlace, regionAt, firstRefusal}
+use Rattle.interval_records.specs.Layout.{headLength}
+use Rattle.interval_records.specs.Record.{dueVerdict, headVerdict, recordPlace, regionAt, firstRefusal}
 
 -- 42 "a region from R up or given before"
 abbrev pub stray : ℕ → ℕ → List ℕ → ℕ → ℕ → Bool

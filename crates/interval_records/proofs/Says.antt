@@ -15,7 +15,7 @@ use Rattle.laws.proofs.Bytes.{number-append-left, number-append-right, le-numbe
 use Rattle.laws.proofs.Fields.{Fit, none, more, length-encode, decode-encode, decode-at}
 use Rattle.laws.proofs.Lists.{length-run, getD-tabulate, tabulate-same}
 use Rattle.laws.proofs.Words.{length-words, price-back, words-back}
-use Rattle.intervals.specs.Layout.{Interval, headWidths, regionWidths, headLength, regionLength, rowOf, headRecord, regionRecord}
+use Rattle.interval_records.specs.Layout.{Interval, headWidths, regionWidths, headLength, regionLength, rowOf, headRecord, regionRecord}
 
 -- what the types of an interval's numbers say: each fits its field
 pub record Fits (v : Interval) : Type 0 where

@@ -13,7 +13,7 @@ use Rattle.laws.specs.Bytes.{numberAt}
 use Rattle.laws.proofs.Tests.{by-test, never, and-left, and-right, lt-or-ge, true-is}
 use Rattle.pricing.specs.Verdict.{Verdict, accepted, refused}
 use Rattle.book.specs.Record.{isAccepted}
-use Rattle.intervals.specs.Record.{lengthAt, kindAt, knownLength, whole, dueVerdict, firstRefusal}
+use Rattle.interval_records.specs.Record.{lengthAt, kindAt, knownLength, whole, dueVerdict, firstRefusal}
 
 -- ---- one record: it is accepted exactly where it is there and has its kind's length
 pub record Due (due markets : ℕ) (bytes : List ℕ) (p : ℕ) : Type 0 where

@@ -8,7 +8,7 @@ use Rattle.laws.specs.Base.{pick}
 use Rattle.laws.specs.Bytes.{numberAt}
 use Rattle.pricing.specs.Verdict.{Verdict, accepted, refused}
 use Rattle.book.specs.Record.{isAccepted}
-use Rattle.intervals.specs.Layout.{headLength, regionLength}
+use Rattle.interval_records.specs.Layout.{headLength, regionLength}
 
 -- ---- what a record says first
 abbrev pub lengthAt : List ℕ → ℕ → ℕ

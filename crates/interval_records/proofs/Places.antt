@@ -1,0 +1,55 @@
+-- No refusal of an interval's records has a place. Assumes nothing.
+use mathlib.Core.Path.{_≡_, refl}
+use mathlib.Core.Bool.{Bool, true, false, not}
+use mathlib.Core.List.{List}
+use Prim.Native.Nat.{ℕ, zero, suc, _+_}
+use lib.Dec.{eqb}
+use Rattle.laws.specs.Base.{pick}
+use Rattle.laws.specs.Bytes.{numberAt}
+use Rattle.pricing.specs.Verdict.{Verdict, accepted, refused}
+use Rattle.book.specs.Record.{isAccepted}
+use Rattle.interval_records.specs.Layout.{headLength}
+use Rattle.interval_records.specs.Record.{kindAt, whole, dueVerdict, headVerdict, recordPlace, firstRefusal}
+use Rattle.interval_records.specs.AnyOrder.{stray, regionVerdict, recordsVerdict}
+
+pub record Placeless (v : Verdict) : Type 0 where
+  pub none : v .place ≡ 0
+
+-- a refusal without a place, an acceptance, and a choice of two such
+pub no-place : (n : ℕ) → Placeless (refused n)
+no-place n = record { none = refl }
+
+pub taken : Placeless accepted
+taken = record { none = refl }
+
+pub either : (t : Bool) {v w : Verdict} → Placeless v → Placeless w → Placeless (pick t v w)
+either true a b = a
+either false a b = b
+
+module _ (R M : ℕ) (bytes : List ℕ) where
+  due-place : (kind p : ℕ) → Placeless (dueVerdict kind M bytes p)
+  unfolding dueVerdict
+  due-place kind p = either (not (whole M bytes p)) (no-place 40) (either (not (eqb (kindAt bytes p) kind)) (no-place 41) taken)
+
+  head-place : (at : ℕ) → Placeless (headVerdict R M bytes at)
+  unfolding headVerdict
+  head-place at =
+      either (not (isAccepted (dueVerdict 16 M bytes at))) (due-place 16 at)
+      (either (not (eqb (numberAt bytes (at + 11) 1) R)) (no-place 41) taken)
+
+  region-place : (first k : ℕ) → Placeless (regionVerdict R M bytes first k)
+  unfolding regionVerdict
+  region-place first k =
+      either (not (isAccepted (dueVerdict 17 M bytes (recordPlace M first k)))) (due-place 17 (recordPlace M first k))
+      (either (stray R M bytes first k) (no-place 42) taken)
+
+  first-place : (n k : ℕ) (f : ℕ → Verdict) → ((j : ℕ) → Placeless (f j)) → Placeless (firstRefusal n k f)
+  unfolding firstRefusal
+  first-place zero k f h = taken
+  first-place (suc n) k f h = either (isAccepted (f k)) (first-place n (suc k) f h) (h k)
+
+  pub records-place : (at : ℕ) → Placeless (recordsVerdict R M bytes at)
+  unfolding recordsVerdict
+  records-place at =
+      either (not (isAccepted (headVerdict R M bytes at))) (head-place at)
+      (first-place R 0 (regionVerdict R M bytes (at + headLength)) (region-place (at + headLength)))

@@ -1,0 +1,171 @@
+-- What reading an interval comes to, by the way the code takes, and what its loop over the regions leaves. Assumes nothing.
+use mathlib.Core.Path.{_≡_, refl, sym, ap, _∙_}
+use mathlib.Core.Bool.{true, false, _&&_}
+use mathlib.Core.List.{List, _++_}
+use Prim.Native.Nat.{ℕ, zero, suc, _+_, _*_, _<_, _≤_}
+use native.Mathlib.Nat.{zero-mul, mul-le-mul-right, suc-mul}
+use native.Mathlib.Omega.{arith}
+use borrow.Author.Tests.{eqb-true}
+use lib.Dec.{eqb}
+use lib.IntN.{ℤ}
+use lib.ListN.{length, drop}
+use mir.Syntax.{w32}
+use mir.Val.{toZ}
+use Rattle.laws.specs.Lists.{run, tabulate}
+use Rattle.laws.specs.Bytes.{numberAt, priceAt}
+use Rattle.laws.proofs.Tests.{by-test, and-left, and-right, true-is}
+use Rattle.laws.proofs.Lists.{run-same, flat-div, flat-mod, tab-done}
+use Rattle.pricing.specs.Verdict.{Verdict}
+use Rattle.book.specs.declared.record.Book.{Book}
+use Rattle.book.specs.declared.record.Refusal.{Refusal}
+use Rattle.book.specs.declared.record.Answer.{Answer}
+use Rattle.book.specs.declared.record.Answer.the-variants.{Accepted, Refused}
+use Rattle.book.specs.Record.{marketsOf, tableSize, linkCount, verdict, isAccepted}
+use Rattle.book.specs.Validity.{valid}
+use Rattle.book.proofs.Ways.{refusal-is}
+use Rattle.book.proofs.Validities.{valid-is}
+use Rattle.intervals.specs.declared.reading.Found.the-variants.{At, Refused as Not-found}
+use Rattle.interval_records.specs.Layout.{Interval, headLength, regionLength, lengthFor, intervalOf}
+use Rattle.intervals.specs.Lent.{slicesOk, lentVerdict}
+use Rattle.interval_records.specs.AnyOrder.{recordsVerdict, recordOf}
+use Rattle.intervals.specs.Reading.{markFrom, flowFrom, factorFrom, priceFrom, readVerdict, Outcome, outcome, readInterval}
+use Rattle.interval_records.proofs.AnyOrder.{given-is, record-below}
+
+-- ---- the room of an accepted interval: its head, all its records and each region's own
+module _ (R M : ℕ) (bytes : List ℕ) (at : ℕ) (e : isAccepted (recordsVerdict R M bytes at) ≡ true) where
+  pub head-room : at + headLength ≤ length bytes
+  head-room = given-is R M bytes at e .head .room
+
+  pub records-room : at + headLength + R * regionLength M ≤ length bytes
+  records-room = most R refl
+    where
+      most : (n : ℕ) → R ≡ n → at + headLength + R * regionLength M ≤ length bytes
+      most zero q = let z : R * regionLength M ≡ 0 = rw q (zero-mul (regionLength M)) in omega (arith, head-room)
+      most (suc n) q =
+          let z : R * regionLength M ≡ suc n * regionLength M = ap (λ (k : ℕ). k * regionLength M) q in
+          omega (arith, z, suc-mul n (regionLength M), given-is R M bytes at e .due n (omega arith) .room)
+
+  pub region-room : (r : ℕ) → r < R → (k : ℕ) → k ≡ recordOf R M bytes (at + headLength) r
+      → at + headLength + k * regionLength M + regionLength M ≤ length bytes
+  region-room r h k q =
+      let g = given-is R M bytes at e in
+      rw q (g .due (recordOf R M bytes (at + headLength) r) (record-below R M bytes at g r h) .room)
+
+-- region r's prices end within R × M of them
+pub row-in : (r R M : ℕ) → r < R → r * M + M ≤ R * M
+row-in r R M h = omega (arith, mul-le-mul-right M h, suc-mul r M)
+
+-- ---- a turn of the loop over the regions: record k is region r's
+module _ (M : ℕ) (bytes : List ℕ) (first : ℕ) (which : ℕ → ℕ) (r k : ℕ) (q : k ≡ which r) where
+  pub mark-of : numberAt bytes (first + k * regionLength M + 7) 1 ≡ markFrom M bytes first which r
+  mark-of = rw q refl
+
+  pub flow-of : toZ w32 (numberAt bytes (first + k * regionLength M + 8) 4) ≡ flowFrom M bytes first which r
+  flow-of = rw q refl
+
+  pub factor-of : numberAt bytes (first + k * regionLength M + 12) 4 ≡ factorFrom M bytes first which r
+  factor-of = rw q refl
+
+  pub row-of : tabulate M (priceAt bytes (first + k * regionLength M + 16)) ≡ run M (r * M) (priceFrom M bytes first which)
+  row-of =
+      run-same M 0 (r * M) (priceAt bytes (first + k * regionLength M + 16)) (priceFrom M bytes first which)
+      (λ m h. let z : 0 + m ≡ m = omega arith in rw (flat-div r m M h, flat-mod r m M h, z, q) refl)
+
+-- ---- the call, by the answers of its tests: `v` holds the four slices that are lent
+module _ (b : Book) (bytes : List ℕ) (at : ℕ) (v : Interval) where
+  abbrev lent : Interval
+  lent = intervalOf 0 0 (v .prices) (v .marked) (v .flows) (v .factors)
+
+  abbrev first-tests : Verdict
+  first-tests = lentVerdict b (length (v .prices)) (length (v .marked)) (length (v .flows)) (length (v .factors))
+
+  abbrev then-tests : Verdict
+  then-tests = recordsVerdict (b .regions) (marketsOf (b .services)) bytes at
+
+  abbrev refusal : Refusal → Outcome
+  refusal r = outcome (record { book = b; found = Not-found r }) (v .prices) (v .marked) (v .flows) (v .factors)
+
+  -- refused by 10 or 11
+  lent-same : isAccepted first-tests ≡ false → readVerdict b lent bytes at ≡ first-tests
+  unfolding lentVerdict readVerdict
+  lent-same e =
+      by-test (valid b)
+      (λ y. by-test (slicesOk b v) (λ l. absurd (true-is (sym (rw (y, l) at e)))) (λ l. rw (y, l) refl))
+      (λ y. rw y refl)
+
+  module _ (a : Answer) (h : verdict a ≡ first-tests) where
+    pub read-lent : (r : Refusal) → a ≡ Refused r → refusal r ≡ readInterval b bytes at lent
+    unfolding readInterval
+    read-lent r q =
+        let p : verdict (Refused r) ≡ first-tests = ap verdict (sym q) ∙ h in
+        let z : isAccepted first-tests ≡ false = rw (← p) (refusal-is r) in
+        rw (lent-same z, z, ← p) refl
+
+    -- passed 10 and 11
+    module _ (q : a ≡ Accepted) where
+      passed : (valid b ≡ true) × (slicesOk b v ≡ true)
+      unfolding lentVerdict
+      passed =
+          let e : isAccepted first-tests ≡ true = rw (← h, q) refl in
+          by-test (valid b)
+          (λ y. by-test (slicesOk b v) (λ l. (y, l)) (λ l. absurd (true-is (rw (y, l) at e))))
+          (λ y. absurd (true-is (rw y at e)))
+
+      pub lengths : (length (v .prices) ≡ tableSize (b .regions) (b .services))
+          × (length (v .marked) ≡ b .regions)
+          × (length (v .flows) ≡ linkCount b)
+          × (length (v .factors) ≡ linkCount b)
+      lengths =
+          let p = eqb (length (v .prices)) (tableSize (b .regions) (b .services)) in
+          let m = eqb (length (v .marked)) (b .regions) in
+          let f = eqb (length (v .flows)) (linkCount b) in
+          let x = eqb (length (v .factors)) (linkCount b) in
+          let l = and-left (p && m && f) x (passed .1) in (
+            eqb-true (length (v .prices)) (tableSize (b .regions) (b .services)) (and-left p m (and-left (p && m) f l)),
+            eqb-true (length (v .marked)) (b .regions) (and-right p m (and-left (p && m) f l)),
+            eqb-true (length (v .flows)) (linkCount b) (and-right (p && m) f l),
+            eqb-true (length (v .factors)) (linkCount b) (and-right (p && m && f) x (passed .1)),
+          )
+
+      pub markets-few : marketsOf (b .services) ≤ 256
+      markets-few = omega (arith, valid-is b (passed .0) .services)
+
+      records-same : readVerdict b lent bytes at ≡ then-tests
+      unfolding readVerdict
+      records-same = rw (passed .0, passed .1) refl
+
+      module _ (c : Answer) (g : verdict c ≡ then-tests) where
+        -- refused by 40 to 42
+        pub read-refused : (r : Refusal) → c ≡ Refused r → refusal r ≡ readInterval b bytes at lent
+        unfolding readInterval
+        read-refused r w =
+            let p : verdict (Refused r) ≡ then-tests = ap verdict (sym w) ∙ g in
+            let z : isAccepted then-tests ≡ false = rw (← p) (refusal-is r) in
+            rw (records-same, z, ← p) refl
+
+        -- accepted
+        module _ (w : c ≡ Accepted) where
+          pub records-accepted : isAccepted then-tests ≡ true
+          records-accepted = rw (← g, w) refl
+
+          abbrev M : ℕ
+          M = marketsOf (b .services)
+
+          abbrev which : ℕ → ℕ
+          which = recordOf (b .regions) M bytes (at + headLength)
+
+          pub read-accepted : (next number kind : ℕ) (prices : List ℤ) (marked : List ℕ) (flows : List ℤ) (factors : List ℕ)
+              → next ≡ at + lengthFor b
+              → number ≡ numberAt bytes (at + 6) 4
+              → kind ≡ numberAt bytes (at + 10) 1
+              → prices ≡ tabulate (b .regions * M) (priceFrom M bytes (at + headLength) which)
+              → marked ≡ tabulate (b .regions) (markFrom M bytes (at + headLength) which) ++ drop (b .regions) (v .marked)
+              → flows ≡ tabulate (b .regions) (flowFrom M bytes (at + headLength) which) ++ drop (b .regions) (v .flows)
+              → factors ≡ tabulate (b .regions) (factorFrom M bytes (at + headLength) which) ++ drop (b .regions) (v .factors)
+              → outcome (record { book = b; found = At next number kind }) prices marked flows factors ≡ readInterval b bytes at lent
+          unfolding readInterval
+          read-accepted next number kind prices marked flows factors en em ek ep ea ef ex =
+              let a = tab-done _ (b .regions) (b .regions) (v .marked) marked ea refl (omega (arith, lengths .1)) in
+              let f = tab-done _ (b .regions) (b .regions) (v .flows) flows ef refl (omega (arith, lengths .2)) in
+              let x = tab-done _ (b .regions) (b .regions) (v .factors) factors ex refl (omega (arith, lengths .3)) in
+              rw (records-same, records-accepted, en, em, ek, ep, a, f, x) refl

@@ -1,0 +1,29 @@
+// The first refusals of both calls on interval records: the book, and the lengths of the four slices.
+use book::record::Answer;
+use book::record::Book;
+use book::record::Refusal;
+use book::validity::valid;
+ghost use mathlib.Core.Path.{_≡_};
+ghost use Rattle.book.specs.Record.{verdict};
+ghost use Rattle.intervals.specs.Lent.{lentVerdict};
+
+// 10, then 11. The slices are told by their lengths.
+pub fn lent_verdict(
+    book: Book,
+    prices: usize,
+    marked: usize,
+    flows: usize,
+    factors: usize,
+) -> Answer
+    ensures { λ r. ⌜ verdict r ≡ lentVerdict book prices marked flows factors ⌝ }
+{
+    if !valid(book) {
+        return Answer::Refused(Refusal::Invalid);
+    }
+    let regions = book.regions as usize;
+    let size = regions * (book.services as usize + 1);
+    if !((prices == size) & (marked == regions) & (flows == regions) & (factors == regions)) {
+        return Answer::Refused(Refusal::Length);
+    }
+    Answer::Accepted
+}
