@@ -10,7 +10,6 @@
 //   =          a heading to print; lines that begin with anything else are for the reader
 use book::opening::open;
 use book::record::Book;
-use book::record::Settings;
 use book::record::closed;
 use book::report::report;
 use book::setting::set_limits;
@@ -24,12 +23,12 @@ use stage::printing::say;
 use stage::reading::byte;
 use stage::reading::bytes;
 use stage::reading::cents;
+use stage::reading::heading;
 use stage::reading::letter_at;
-use stage::reading::line_at;
 use stage::reading::numbers;
+use stage::reading::settings;
 use stage::reading::signed_numbers;
 use stage::reading::size;
-use stage::reading::wide;
 use stage::reading::within;
 ghost use Prim.Native.Nat.{_<_};
 
@@ -53,27 +52,6 @@ fn first_number(text: &[u8], at: usize) -> usize {
     let mut list = [0u32; 1];
     numbers(text, at, &mut list);
     size(list[0])
-}
-
-// The settings in a line, with the parents in another.
-fn settings(text: &[u8], at: usize, parents_at: usize) -> Settings {
-    let mut n = [0u8; 8];
-    let mut z = [0i32; 8];
-    let mut parents = [255u8; 8];
-    bytes(text, at, &mut n);
-    signed_numbers(text, at, &mut z);
-    bytes(text, parents_at, &mut parents);
-    Settings {
-        regions: n[0],
-        services: n[1],
-        window: wide(n[2]),
-        halves: n[3],
-        first: wide(n[4]),
-        parents,
-        threshold: cents(z[5]),
-        cap: z[6],
-        floor: z[7],
-    }
 }
 
 fn opened(ring: &mut [i32], text: &[u8], at: usize, parents_at: usize) -> Book {
@@ -183,14 +161,6 @@ fn called(
         b'e' => entered(book, ring, text, at, lent),
         b'b' => broken(book, ring),
         _ => asked(book, letter, text, at),
-    }
-}
-
-fn heading(letter: u8, text: &[u8], at: usize) {
-    if letter == b'=' {
-        let line = line_at(text, at);
-        say(line);
-        say(b"\n");
     }
 }
 

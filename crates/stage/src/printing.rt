@@ -3,6 +3,7 @@ use amount::amount_text;
 use book::record::Answer;
 use book::record::Refusal;
 use book::report::Reading;
+use codec::bits32;
 use entries::Publication;
 
 pub fn say(text: &[u8]) {
@@ -20,9 +21,20 @@ pub fn price(cents: i32) {
     amount(cents as i64);
 }
 
-fn number(n: u64) {
+pub fn number(n: u64) {
     io::write_all(1, b" ");
     io::print_decimal(1, n);
+}
+
+// A whole number with its sign: below zero its bits are 2 ^ 32 more.
+pub fn signed(z: i32) {
+    let bits = bits32(z) as u64;
+    if z < 0 {
+        io::write_all(1, b" -");
+        io::print_decimal(1, 4294967296 - bits);
+    } else {
+        number(bits);
+    }
 }
 
 fn at(place: usize) {
@@ -31,7 +43,7 @@ fn at(place: usize) {
 }
 
 // A refusal's number, and its place for 15, 16 and 17, which have one.
-fn refusal(r: Refusal) {
+pub fn refusal(r: Refusal) {
     let n = book::record::number(r);
     say(b" refused");
     number(n as u64);

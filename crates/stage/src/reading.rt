@@ -1,4 +1,6 @@
 // Reads a line of text: its first letter, and the numbers in it in their order; all else is for the reader.
+use crate::printing::say;
+use book::record::Settings;
 ghost use mathlib.Core.Path.{_≡_};
 ghost use Prim.Native.Nat.{_≤_};
 ghost use lib.ListN.{length, take};
@@ -34,7 +36,7 @@ pub fn line_end(text: &[u8], at: usize) -> usize {
 }
 
 // What stands in a line after its first letter.
-pub fn line_at(text: &[u8], at: usize) -> &[u8] {
+fn line_at(text: &[u8], at: usize) -> &[u8] {
     let end = line_end(text, at);
     if at >= end {
         return &text[..0];
@@ -177,7 +179,7 @@ pub fn byte(n: u32) -> u8 {
     n as u8
 }
 
-pub fn wide(b: u8) -> u16 {
+fn wide(b: u8) -> u16 {
     b as u16
 }
 
@@ -195,4 +197,34 @@ pub fn within(n: usize, list: &[i32]) -> usize
     ensures { λ r. ⌜ r ≡ length (take r (now (list .entry))) ⌝ }
 {
     if n < list.len() { n } else { list.len() }
+}
+
+// The settings in a line, with the parents in another.
+pub fn settings(text: &[u8], at: usize, parents_at: usize) -> Settings {
+    let mut n = [0u8; 8];
+    let mut z = [0i32; 8];
+    let mut parents = [255u8; 8];
+    bytes(text, at, &mut n);
+    signed_numbers(text, at, &mut z);
+    bytes(text, parents_at, &mut parents);
+    Settings {
+        regions: n[0],
+        services: n[1],
+        window: wide(n[2]),
+        halves: n[3],
+        first: wide(n[4]),
+        parents,
+        threshold: cents(z[5]),
+        cap: z[6],
+        floor: z[7],
+    }
+}
+
+// A line that begins with = is printed.
+pub fn heading(letter: u8, text: &[u8], at: usize) {
+    if letter == b'=' {
+        let line = line_at(text, at);
+        say(line);
+        say(b"\n");
+    }
 }

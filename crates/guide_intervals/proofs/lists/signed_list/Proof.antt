@@ -1,0 +1,54 @@
+-- `guide_intervals::lists::signed_list` reads within the array and ends. Assumes nothing.
+use borrow.Author.Needs.{needs}
+use Prim.Native.Nat.{_≤_, _-_}
+use Rattle.guide_intervals.proofs.lists.signed_list.Statement.{statement}
+use Rattle.guide_intervals.proofs.lists.signed_list.Tie as tie
+
+abbrev Inv-loop : tie.InvT-loop
+Inv-loop name list places k₀ k = k ≤ 8
+
+abbrev μ-loop : tie.MeasureT-loop
+μ-loop name list places k₀ k = 8 - k
+
+say-requires : tie.Need-say-requires Inv-loop μ-loop
+say-requires c κs = search needs
+
+loop-holds : tie.Need-loop-holds Inv-loop μ-loop
+loop-holds c = search needs
+
+mul-signed : tie.Need-mul-signed Inv-loop μ-loop
+mul-signed c = search needs
+
+element-copy-out-signed : tie.Need-element-copy-out-signed Inv-loop μ-loop
+element-copy-out-signed c = search needs
+
+signed-requires : tie.Need-signed-requires Inv-loop μ-loop
+signed-requires c κs = search needs
+
+add-k : tie.Need-add-k Inv-loop μ-loop
+add-k c = search needs
+
+loop-less : tie.Need-loop-less Inv-loop μ-loop
+loop-less c = search needs
+
+loop-again : tie.Need-loop-again Inv-loop μ-loop
+loop-again c = search needs
+
+returns : tie.Need-returns Inv-loop μ-loop
+returns c = search needs
+
+pub signed-list-spec : {M : Type 1} → statement M
+signed-list-spec =
+    tie.close
+    (tie.spec
+    Inv-loop
+    μ-loop
+    say-requires
+    loop-holds
+    mul-signed
+    element-copy-out-signed
+    signed-requires
+    add-k
+    loop-less
+    loop-again
+    returns)
