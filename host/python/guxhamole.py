@@ -29,13 +29,15 @@ from array import array
 from ctypes import POINTER, c_int32, c_int64, c_size_t, c_uint8, c_uint16, c_uint32, c_uint64
 from dataclasses import dataclass
 from pathlib import Path
-from typing import List, NamedTuple, Optional, Sequence
+from typing import Iterator, List, NamedTuple, Optional, Sequence
 
 ABI = 1
 NO_PARENT = 255
 LONGEST_TEXT = 21  # bytes: "-92233720368547758.08"
 LARGEST_RING = 8 * 11 * 2016
 HEAD = 148  # bytes of an image before its prices
+INTERVAL_HEAD = 12  # bytes of the record that heads an interval
+REGION_HEAD = 16  # bytes of a region's record before its prices
 
 MEANINGS = {
     10: "the book is closed, or a field of it is outside its limits",
@@ -60,6 +62,9 @@ MEANINGS = {
     31: "a schedule's half-hours, or how many prices or day kinds are lent",
     32: "a schedule's day kind is neither 0 nor 1, or one kind is missing",
     33: "a buffer too short for the text",
+    40: "a record missing, cut short, or of another length than its kind has",
+    41: "a record's kind, or a head's region total, that doesn't belong there",
+    42: "a record of a region from R up or given before",
 }
 
 # "15 to 17 give the first place in the lent slice"; beside any other refusal the place is 0 and says nothing.
@@ -111,6 +116,24 @@ class Entered(NamedTuple):
     table: List[int]
 
 
+class Interval(NamedTuple):
+    """An entry but for its schedule, as records carry it: `book.enter(*interval, schedule)` enters it."""
+
+    number: int
+    day_kind: int
+    prices: List[int]
+    marks: List[int]
+    flows: List[int]
+    factors: List[int]
+
+
+class Found(NamedTuple):
+    """An interval that stands in some records, and the place after it."""
+
+    interval: Interval
+    next: int
+
+
 class Schedule(NamedTuple):
     """Two rows of 48 prices, a row a kind of day; places from the day's half-hours up are zero."""
 
@@ -152,11 +175,15 @@ class _Stored(ctypes.Structure):
     _fields_ = [("number", c_uint32), ("length", c_uint64)]
 
 
+class _Found(ctypes.Structure):
+    _fields_ = [("number", c_uint32), ("next", c_uint64), ("entry", c_uint32), ("day_kind", c_uint32)]
+
+
 class _Rows(ctypes.Structure):
     _fields_ = [("number", c_uint32), ("place", c_uint64), ("weekday", c_int32 * 48), ("weekend", c_int32 * 48)]
 
 
-_SIZES = {_Settings: 32, _Book: 864, _Kept: 880, _Entered: 888, _Reading: 24, _Stored: 16, _Rows: 400}
+_SIZES = {_Settings: 32, _Book: 864, _Kept: 880, _Entered: 888, _Reading: 24, _Stored: 16, _Found: 24, _Rows: 400}
 for _layout, _size in _SIZES.items():
     if ctypes.sizeof(_layout) != _size:
         raise ImportError(f"{_layout.__name__} has {ctypes.sizeof(_layout)} bytes here, {_size} in the archive")
@@ -168,6 +195,7 @@ def _slice(number):
 
 
 _BYTES, _SIGNED, _UNSIGNED = _slice(c_uint8), _slice(c_int32), _slice(c_uint32)
+_CONTENTS = [*_SIGNED, *_BYTES, *_SIGNED, *_UNSIGNED]  # prices, marks, flows, factors
 
 # What each function answers and takes, as host/c/guxhamole.h has it.
 _FUNCTIONS = {
@@ -175,10 +203,11 @@ _FUNCTIONS = {
     "set_threshold": (_Kept, [_Book, c_int64]),
     "set_limits": (_Kept, [_Book, c_int32, c_int32]),
     "report": (_Reading, [_Book, c_uint32, c_uint32]),
-    "enter": (_Entered, [_Book, *_SIGNED, c_uint32, c_uint8, *_SIGNED, *_BYTES, *_SIGNED, *_UNSIGNED, *_SIGNED,
-                         *_SIGNED]),
+    "enter": (_Entered, [_Book, *_SIGNED, c_uint32, c_uint8, *_CONTENTS, *_SIGNED, *_SIGNED]),
     "store": (_Stored, [_Book, *_SIGNED, *_BYTES]),
     "load": (_Kept, [*_BYTES, *_SIGNED]),
+    "interval_read": (_Found, [_Book, *_BYTES, c_size_t, *_CONTENTS]),
+    "interval_write": (_Stored, [_Book, c_uint32, c_uint8, *_CONTENTS, *_BYTES]),
     "schedule": (_Rows, [c_uint8, c_int32, c_int32, c_uint8, *_SIGNED, *_BYTES]),
     "amount_text": (c_size_t, [c_int64, *_BYTES]),
     "image_check": (c_uint32, _BYTES),
@@ -228,6 +257,17 @@ def _numbers(values: Sequence[int], kind):
     """These numbers as the library takes them, where their type holds every one."""
     numbers = array(_CODES[kind], list(values))
     return (kind * len(numbers)).from_buffer_copy(numbers)
+
+
+def _contents(prices: Sequence[int], marks: Sequence[int], flows: Sequence[int], factors: Sequence[int]):
+    """What an entry lends and an interval's records carry."""
+    return [_numbers(prices, c_int32), _numbers(marks, c_uint8), _numbers(flows, c_int32), _numbers(factors, c_uint32)]
+
+
+def _bytes(given):
+    """A bytes-like object's bytes, whatever its items are; copied, since ctypes lends nothing that is read-only."""
+    view = memoryview(given)
+    return (c_uint8 * view.nbytes).from_buffer_copy(view)
 
 
 def _lent(*slices):
@@ -290,8 +330,7 @@ class Book:
         """One interval; `number` is that of the entries taken before it. Refusals: 11 to 17."""
         head = (_fits(number, c_uint32), _fits(day_kind, c_uint8))
         table = (c_int32 * (self.regions * (self.services + 1)))()
-        lent = _lent(_numbers(prices, c_int32), _numbers(marks, c_uint8), _numbers(flows, c_int32),
-                     _numbers(factors, c_uint32), _numbers(schedule, c_int32), table)
+        lent = _lent(*_contents(prices, marks, flows, factors), _numbers(schedule, c_int32), table)
         answer = _accepted(_face().guxhamole_enter(self._book, *_lent(self._ring), *head, *lent))
         self._book = answer.book
         return Entered(answer.count, list(table))
@@ -315,6 +354,40 @@ class Book:
         image = (c_uint8 * (HEAD + 4 * len(self._ring)))()
         answer = _accepted(_face().guxhamole_store(self._book, *_lent(self._ring, image)))
         return bytes(image)[:answer.length]
+
+    def read_interval(self, records: bytes, at: int = 0) -> Found:
+        """The interval at a place of some records, any bytes-like object; what stands behind it is not looked at, and
+        that an entry would take it is not said. Refusals: 40 41 42."""
+        return self._read(_bytes(records), _fits(at, c_size_t))
+
+    def intervals(self, records: bytes, at: int = 0) -> Iterator[Interval]:
+        """The intervals that stand end to end from a place to the records' end, of which it keeps a copy. One that is
+        refused raises when its turn comes, as does a place beyond the end. Refusals: 40 41 42."""
+        return self._each(_bytes(records), _fits(at, c_size_t))
+
+    def write_interval(self, number: int, day_kind: int, prices: Sequence[int], marks: Sequence[int],
+                       flows: Sequence[int], factors: Sequence[int]) -> bytes:
+        """An interval's records, its regions upward; the numbers are written whether or not an entry would take them.
+        Refusal: 11."""
+        head = (_fits(number, c_uint32), _fits(day_kind, c_uint8))
+        buffer = (c_uint8 * (INTERVAL_HEAD + self.regions * (REGION_HEAD + 4 * (self.services + 1))))()
+        lent = _lent(*_contents(prices, marks, flows, factors), buffer)
+        answer = _accepted(_face().guxhamole_interval_write(self._book, *head, *lent))
+        return bytes(buffer)[:answer.length]
+
+    def _read(self, records, at: int) -> Found:
+        """The interval at a place of bytes that are the library's to look at."""
+        regions = self.regions
+        lent = [(c_int32 * (regions * (self.services + 1)))(), (c_uint8 * regions)(), (c_int32 * regions)(),
+                (c_uint32 * regions)()]
+        answer = _accepted(_face().guxhamole_interval_read(self._book, *_lent(records), at, *_lent(*lent)))
+        return Found(Interval(answer.entry, answer.day_kind, *map(list, lent)), answer.next)
+
+    def _each(self, records, at: int) -> Iterator[Interval]:
+        """Apart from `intervals`, so that what is wrong with its arguments raises there."""
+        while at != len(records):
+            interval, at = self._read(records, at)
+            yield interval
 
     def __reduce__(self):
         """A copy, or a book that was pickled, has a ring of its own: two books on one ring would spoil each other."""
