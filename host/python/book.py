@@ -1,0 +1,43 @@
+"""Document 01's rule 10, from its words alone: the book records that every call refuses. The tests hold the library to
+it; it shares no code with guxhamole.py."""
+
+from arithmetic import Refused, limits_good
+from ledger import MOST_ENTRIES, parents_good
+
+LARGEST_SUM = 20_160_000_000
+
+
+def refuse_book(book):
+    """ "Any call on a book: 10, it is closed or a field is outside its limits" """
+    if not (settings_good(book) and windows_good(book) and markets_good(book)):
+        raise Refused(10)
+
+
+def settings_good(book):
+    """What opening sets, and the "entries taken above 10,000,000"; a closed book has no region."""
+    return (
+        1 <= book.regions <= 8 and book.services <= 10 and 1 <= book.window <= 2016 and 1 <= book.halves <= 48
+        and parents_good(book.regions, book.parents[:])
+        and 1 <= book.threshold <= 100_000_000_000 and limits_good(book.cap, book.floor)
+        and book.entries <= MOST_ENTRIES and book.position < 6 * book.halves
+    )
+
+
+def windows_good(book):
+    """ "a count above W or above entries taken, next place not the count while below W", "an unused .. count .. not
+    zero"; and "next place (0..W−1)" """
+    for region, (count, place) in enumerate(zip(book.counts[:], book.nexts[:])):
+        most = min(book.window, book.entries) if region < book.regions else 0
+        if count > most or place >= book.window or (count < book.window and place != count):
+            return False
+    return True
+
+
+def markets_good(book):
+    """ "a sum beyond ±20,160,000,000, an unused sum, count or mark not zero"; a used mark is 0 or 1. They stand "at
+    place 11 × region + market". """
+    for place, (total, mark) in enumerate(zip(book.sums[:], book.marks[:])):
+        used = place // 11 < book.regions and place % 11 <= book.services
+        if abs(total) > (LARGEST_SUM if used else 0) or mark > (1 if used else 0):
+            return False
+    return True

@@ -1,0 +1,97 @@
+"""Document 02's interval records (request 2026-01), from its words alone: a reader that goes from record to record, and
+a writer. The tests hold the library to it; it shares no code with guxhamole.py."""
+
+from struct import Struct
+from typing import NamedTuple, Sequence
+
+from arithmetic import Refused
+from book import refuse_book
+
+# "A record, little-endian throughout, is its length (4 bytes, the whole record), a two-byte kind, then the body."
+FRONT = Struct("<IH")
+HEAD, REGION = 16, 17
+
+
+class Interval(NamedTuple):
+    """An entry, "its schedule aside"."""
+
+    number: int
+    day_kind: int
+    prices: Sequence[int]
+    marks: Sequence[int]
+    flows: Sequence[int]
+    factors: Sequence[int]
+
+
+def bodies(markets):
+    """ "Kind 16 heads an interval: number (4), day kind (1), regions (1). Kind 17 is a region: region (1), mark (1),
+    flow (4), factor (4), M prices (4 each)." Flows and prices are signed. """
+    return {HEAD: Struct("<IBB"), REGION: Struct(f"<BBiI{markets}i")}
+
+
+def record(markets, kind, *fields):
+    body = bodies(markets)[kind].pack(*fields)
+    return FRONT.pack(FRONT.size + len(body), kind) + body
+
+
+def records(book, interval):
+    """The head, and the region records upward."""
+    markets = book.services + 1
+    yield record(markets, HEAD, interval.number, interval.day_kind, book.regions)
+    for region in range(book.regions):
+        prices = interval.prices[region * markets:(region + 1) * markets]
+        others = interval.marks[region], interval.flows[region], interval.factors[region]
+        yield record(markets, REGION, region, *others, *prices)
+
+
+def refuse_lengths(book, lengths):
+    """11, of the slices that an entry has too: R × M prices, R marks, R flows, R factors."""
+    if list(lengths) != [book.regions * (book.services + 1)] + [book.regions] * 3:
+        raise Refused(11)
+
+
+def write(book, interval, room):
+    """The bytes that go to a buffer's start: "10, 11 and the writer's 23 come first", and nothing else is refused."""
+    refuse_book(book)
+    refuse_lengths(book, [len(numbers) for numbers in interval[2:]])
+    written = b"".join(records(book, interval))
+    if len(written) > room:
+        raise Refused(23)
+    return written
+
+
+def take(given, place, markets, due):
+    """A due record's fields and the place after it. "40: a record missing or cut short, a length below 6 or, for a
+    known kind, another than it has. 41: a kind .. that doesn't belong there." """
+    left = given[place:]
+    if len(left) < FRONT.size:
+        raise Refused(40)
+    length, kind = FRONT.unpack_from(left)
+    body = bodies(markets).get(kind)
+    if length < FRONT.size or length > len(left) or (body is not None and length != FRONT.size + body.size):
+        raise Refused(40)
+    if kind != due:
+        raise Refused(41)
+    return body.unpack_from(left, FRONT.size), place + length
+
+
+def read(book, lengths, given, at):
+    """The interval at a place and the place after it. "One head is followed by R region records, each region once, in
+    any order"; "41: .. a region total in the head, that doesn't belong there. 42: a region from R up or given before."
+    """
+    refuse_book(book)
+    refuse_lengths(book, lengths)
+    markets = book.services + 1
+    (number, day_kind, total), place = take(given, at, markets, HEAD)
+    if total != book.regions:
+        raise Refused(41)
+    rows = {}
+    for _ in range(book.regions):
+        (region, *row), place = take(given, place, markets, REGION)
+        if region >= book.regions or region in rows:
+            raise Refused(42)
+        rows[region] = row
+    upward = [rows[region] for region in range(book.regions)]
+    prices = [price for _, _, _, *prices in upward for price in prices]
+    marks, flows, factors = ([row[field] for row in upward] for field in range(3))
+    return Interval(number, day_kind, prices, marks, flows, factors), place
