@@ -3,6 +3,7 @@ with nothing written, and the ends of the types."""
 
 import ctypes
 import mmap
+import tempfile
 import unittest
 from array import array
 from ctypes import c_int32, c_uint8, c_uint32
@@ -22,6 +23,7 @@ WILD = Interval(1, 7, [-2**31, 2**31 - 1], [9, 255], [-2**31, 2**31 - 1], [2**32
 HEAD = bytes.fromhex("0c000000 1000 00000000 00 02")
 FIRST = bytes.fromhex("14000000 1100 00 00 00000000 00000000 a0860100")
 SECOND = bytes.fromhex("14000000 1100 01 00 01000000 f82a0000 905f0100")
+UNKNOWN = bytes.fromhex("06000000 6300")
 I = HEAD + FIRST + SECOND
 WILD_BYTES = bytes.fromhex(
     "0c000000 1000 01000000 07 02"
@@ -41,16 +43,24 @@ READS = (
     ("beyond the end", I, 53, 40),
     ("at the last place of all", I, 2**64 - 1, 40),
     ("where the place after the front is no place", I, 2**64 - 6, 40),
+    ("where a place that wraps is before the first byte", I, 2**64 - 52, 40),
     ("five bytes", I[:5], 0, 40),
     ("another total, before the next record is missed", HEAD[:11] + b"\3", 0, 41),
     ("total 0", HEAD[:11] + b"\0" + FIRST + SECOND, 0, 41),
     ("total 255", HEAD[:11] + b"\xff" + FIRST + SECOND, 0, 41),
     ("a head alone", HEAD, 0, 40),
     ("a head of 13 bytes", b"\x0d" + HEAD[1:] + b"\0", 0, 40),
-    ("an unknown kind of length 6", bytes.fromhex("06000000 6300") + I, 0, 41),
-    ("an unknown kind of length 5", bytes.fromhex("05000000 6300") + I, 0, 40),
-    ("an unknown kind, cut short", bytes.fromhex("07000000 6300"), 0, 40),
-    ("an unknown kind, cut short behind an interval", I + bytes.fromhex("07000000 6300"), 52, 40),
+    ("an unknown kind of length 6", UNKNOWN + I, 0, 41),
+    ("an unknown kind of length 6 at the end", UNKNOWN, 0, 41),
+    ("an unknown kind where a region is due", HEAD + UNKNOWN, 0, 41),
+    ("an unknown kind before the first byte", UNKNOWN, 2**64 - 6, 40),
+    ("an unknown kind of length 5", b"\5" + UNKNOWN[1:] + I, 0, 40),
+    ("an unknown kind, cut short", b"\7" + UNKNOWN[1:], 0, 40),
+    ("an unknown kind, cut short behind an interval", I + b"\7" + UNKNOWN[1:], 52, 40),
+    ("a head but for its kind", HEAD[:4] + b"\x12" + HEAD[5:] + FIRST + SECOND, 0, 41),
+    ("a kind is two bytes", HEAD[:5] + b"\1" + HEAD[6:] + FIRST + SECOND, 0, 41),
+    ("a length is four bytes", HEAD[:3] + b"\1" + HEAD[4:] + FIRST + SECOND, 0, 40),
+    ("a head shorter than it has to be", b"\x0b" + HEAD[1:] + FIRST + SECOND, 0, 40),
     ("a region where a head is due", FIRST + SECOND, 0, 41),
     ("that of another length", b"\x15" + FIRST[1:] + b"\0" + SECOND, 0, 40),
     ("a head where a region is due", HEAD + I, 0, 41),
@@ -70,12 +80,14 @@ def right_lengths(book):
 
 
 def library_read(book, lengths, records, at):
-    """The raw function's number, next place, entry, day kind, and then all that was lent, with the margins."""
+    """The raw function's number, next place, entry, day kind, and then all that was lent, with the margins. The same
+    records stand before and behind those lent, so that a reader that strays finds some."""
     slices = [(kind * (length + MARGIN))(*[FILL] * (length + MARGIN)) for kind, length in zip(KINDS, lengths)]
     lent = [argument for pair in zip(slices, lengths) for argument in pair]
-    given = guxhamole._bytes(records)
+    three = guxhamole._bytes(records * 3)
+    given = (c_uint8 * len(records)).from_buffer(three, len(records))
     answer = guxhamole._face().guxhamole_interval_read(book, *guxhamole._lent(given), at, *lent)
-    return [answer.number, answer.next, answer.entry, answer.day_kind, *map(list, slices), bytes(given)]
+    return [answer.number, answer.next, answer.entry, answer.day_kind, *map(list, slices), bytes(three)]
 
 
 def due_read(book, lengths, records, at):
@@ -83,8 +95,8 @@ def due_read(book, lengths, records, at):
     try:
         found, after = interval.read(book, lengths, records, at)
     except Refused as refused:
-        return [refused.number, 0, 0, 0, *([FILL] * (length + MARGIN) for length in lengths), records]
-    return [0, after, *found[:2], *(numbers + [FILL] * MARGIN for numbers in found[2:]), records]
+        return [refused.number, 0, 0, 0, *([FILL] * (length + MARGIN) for length in lengths), records * 3]
+    return [0, after, *found[:2], *(numbers + [FILL] * MARGIN for numbers in found[2:]), records * 3]
 
 
 def library_write(book, entry, room):
@@ -174,6 +186,17 @@ class Cases(unittest.TestCase):
         for settings, number in ((Settings(services=1, regions=2, parents=B2.parents), 40), (Settings(), 41)):
             self.assertEqual(number_of(Book.open(settings).read_interval, I), number)
 
+    def test_places_beyond_32_bits(self):
+        """An interval across 2**32, in a file that takes no room before it; `read_interval` would copy all of it."""
+        at = 2**32 - 26
+        with tempfile.TemporaryFile() as file:
+            file.seek(at)
+            file.write(I)
+            file.flush()
+            mapped = mmap.mmap(file.fileno(), 0)
+            self.assertEqual(self.book._read((c_uint8 * len(mapped)).from_buffer(mapped), at), (ENTRY, at + 52))
+            self.assertEqual(interval.read(self.raw, right_lengths(self.raw), mapped, at), (ENTRY, at + 52))
+
     def test_what_was_read_is_entered(self):
         self.assertEqual(self.book.enter(*self.book.read_interval(I).interval, [0] * 4), (0, ENTRY.prices))
         self.assertEqual(self.book.entries, 1)
@@ -254,7 +277,8 @@ class Types(unittest.TestCase):
 
     def test_layout(self):
         self.assertEqual(ctypes.sizeof(guxhamole._Found), 24)
-        self.assertEqual([getattr(guxhamole._Found, name).offset for name, _ in guxhamole._Found._fields_], [0, 8, 16, 20])
+        offsets = [getattr(guxhamole._Found, name).offset for name in ("number", "next", "entry", "day_kind")]
+        self.assertEqual(offsets, [0, 8, 16, 20])
 
 
 if __name__ == "__main__":
