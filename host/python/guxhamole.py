@@ -6,6 +6,9 @@
     print(book.report(0, 0))        # Report(sum=8500, counted=1, administered=False, entries=1)
     saved = book.store()            # bytes; Book.load(saved) goes on from here, after a restart too
 
+Intervals that a site's logger hands over as records (request 2026-01 of document 02) are entered by
+`for interval in book.intervals(records): book.enter(*interval, schedule)`.
+
 Money is in whole cents, the index in whole dollars. docs/REFUSALS.md has every refusal, host/c/guxhamole.h every
 function.
 
