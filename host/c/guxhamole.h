@@ -1,7 +1,7 @@
 /* The functions that a host in C11 or C++17 calls: a book of administered prices that the host keeps in its own memory, and
-   beside it the image check, the schedule maker, the index, the amount text and the replay of lists of calls. Link with
-   libcapi.a, which `rt staticlib capi` writes to target/staticlib, for x86-64 Linux alone. docs/REFUSALS.md has every number
-   that they answer: its meaning, its place and what a host should do. host/c/box.c is a host to copy.
+   beside it the records of intervals, the image check, the schedule maker, the index, the amount text and the replay of lists of
+   calls. Link with libcapi.a, which `rt staticlib capi` writes to target/staticlib, for x86-64 Linux alone. docs/REFUSALS.md has
+   every number that they answer: its meaning, its place and what a host should do. host/c/box.c is a host to copy.
 
    Proved of every function, for all arguments: it reads and writes only what it is lent, allocates nothing, keeps no pointer
    and no state of its own, ends, and its whole outcome (the answer, the book that it hands back and the contents of every
@@ -12,8 +12,8 @@
    ledger machine, which keeps the whole history and no sum: acceptance, or refusal with its place; an entry's count and
    published table; a report's four numbers. For that to hold of a host, it
    - begins with an accepted guxhamole_open;
-   - hands each call the book that the call before handed back, accepted or refused; guxhamole_report and guxhamole_store
-     hand none back and change none, so that the next call gets the same book again;
+   - hands each call the book that the call before handed back, accepted or refused; guxhamole_report, guxhamole_store and the
+     two calls of interval records hand none back and change none, so that the next call gets the same book again;
    - lends the ring that the opening or load was lent, at its full length, and lets these calls alone write to it and to the
      book (both may be copied and moved between calls: what they hold counts, not where they stand);
    - restarts by a guxhamole_store into a long enough buffer and a guxhamole_load, from exactly the `length` bytes that were
@@ -55,6 +55,7 @@ uint32_t guxhamole_abi(void);
 #define GUXHAMOLE_RING(R, S, W) (GUXHAMOLE_PRICES(R, S) * (size_t)(W))          /* exactly */
 #define GUXHAMOLE_SCHEDULE(R, S, H) (GUXHAMOLE_PRICES(R, S) * 2 * (size_t)(H))  /* an entry's schedule */
 #define GUXHAMOLE_IMAGE_MAX(R, S, W) (148 + 4 * GUXHAMOLE_RING(R, S, W))        /* bytes that hold every image of the book */
+#define GUXHAMOLE_INTERVAL(R, S) (12 + (size_t)(R) * (20 + 4 * (size_t)(S)))    /* bytes of an interval's records, exactly */
 #define GUXHAMOLE_MAKER_PRICES(H) ((size_t)(H) * 168)                           /* 28 days of 6 x H prices */
 #define GUXHAMOLE_MAKER_DAYS 28
 #define GUXHAMOLE_TEXT_MAX 21                                                   /* bytes that hold every amount's text */
@@ -62,28 +63,31 @@ uint32_t guxhamole_abi(void);
 /* An answer's `number`: 0, or the first refusal of the call's list. `place` is 0 unless it is named here. */
 enum guxhamole_refusal {
     GUXHAMOLE_ACCEPTED = 0,
-    GUXHAMOLE_BOOK = 10,         /* the book is closed, or a field of it is outside its limits */
-    GUXHAMOLE_LENGTH = 11,       /* a lent slice has another length than it must have */
-    GUXHAMOLE_FULL = 12,         /* 10,000,000 entries were taken */
-    GUXHAMOLE_NUMBER = 13,       /* the entry's number is not the next, which is the number of entries taken */
-    GUXHAMOLE_DAY_KIND = 14,     /* the day kind is neither 0 nor 1 */
-    GUXHAMOLE_MARK = 15,         /* a mark is neither 0 nor 1; place: its region */
-    GUXHAMOLE_PRICE = 16,        /* a price is out of its market's range; place: in the lent prices, or among the image's */
-    GUXHAMOLE_FACTOR = 17,       /* the factor of a region that has a parent is outside 10,000..20,000; place: its region */
-    GUXHAMOLE_THRESHOLD = 18,    /* the threshold is outside 1..100,000,000,000 */
-    GUXHAMOLE_LIMITS = 19,       /* the cap is outside 1..10,000,000 or the floor outside -10,000,000..-1 */
-    GUXHAMOLE_SETTING = 20,      /* another setting of an opening is outside its limits */
-    GUXHAMOLE_MARKET = 21,       /* the report's region or market is not one of the book's */
-    GUXHAMOLE_SUMS = 22,         /* a counted price of the ring is out of range, or a sum is not the total of its prices */
-    GUXHAMOLE_BUFFER = 23,       /* the buffer is shorter than the image */
-    GUXHAMOLE_IMAGE_LENGTH = 24, /* fewer than 148 bytes, or the image's length field is not the lent length */
-    GUXHAMOLE_IMAGE_KIND = 25,   /* the image's kind is not 1 */
-    GUXHAMOLE_IMAGE_FIELD = 26,  /* a field of bytes 6 to 147 is outside its limits, or an unused one is not zero */
-    GUXHAMOLE_IMAGE_TOTAL = 27,  /* the image's length is not 148 + 4 x markets x (sum of counts) */
-    GUXHAMOLE_INDEX = 30,        /* a number of the index is outside its limits; answered as -30 */
-    GUXHAMOLE_MAKER_LENGTH = 31, /* half-hours outside 1..48, or not 28 days of prices and kinds */
-    GUXHAMOLE_MAKER_KIND = 32,   /* a day kind is neither 0 nor 1, or one of the two is missing */
-    GUXHAMOLE_TEXT = 33          /* the buffer is too short for the text; shown by a length of 0 alone */
+    GUXHAMOLE_BOOK = 10,          /* the book is closed, or a field of it is outside its limits */
+    GUXHAMOLE_LENGTH = 11,        /* a lent slice has another length than it must have */
+    GUXHAMOLE_FULL = 12,          /* 10,000,000 entries were taken */
+    GUXHAMOLE_NUMBER = 13,        /* the entry's number is not the next, which is the number of entries taken */
+    GUXHAMOLE_DAY_KIND = 14,      /* the day kind is neither 0 nor 1 */
+    GUXHAMOLE_MARK = 15,          /* a mark is neither 0 nor 1; place: its region */
+    GUXHAMOLE_PRICE = 16,         /* a price is out of its market's range; place: in the lent prices, or among the image's */
+    GUXHAMOLE_FACTOR = 17,        /* the factor of a region that has a parent is outside 10,000..20,000; place: its region */
+    GUXHAMOLE_THRESHOLD = 18,     /* the threshold is outside 1..100,000,000,000 */
+    GUXHAMOLE_LIMITS = 19,        /* the cap is outside 1..10,000,000 or the floor outside -10,000,000..-1 */
+    GUXHAMOLE_SETTING = 20,       /* another setting of an opening is outside its limits */
+    GUXHAMOLE_MARKET = 21,        /* the report's region or market is not one of the book's */
+    GUXHAMOLE_SUMS = 22,          /* a counted price of the ring is out of range, or a sum is not the total of its prices */
+    GUXHAMOLE_BUFFER = 23,        /* the buffer is shorter than the image, or than the interval's records */
+    GUXHAMOLE_IMAGE_LENGTH = 24,  /* fewer than 148 bytes, or the image's length field is not the lent length */
+    GUXHAMOLE_IMAGE_KIND = 25,    /* the image's kind is not 1 */
+    GUXHAMOLE_IMAGE_FIELD = 26,   /* a field of bytes 6 to 147 is outside its limits, or an unused one is not zero */
+    GUXHAMOLE_IMAGE_TOTAL = 27,   /* the image's length is not 148 + 4 x markets x (sum of counts) */
+    GUXHAMOLE_INDEX = 30,         /* a number of the index is outside its limits; answered as -30 */
+    GUXHAMOLE_MAKER_LENGTH = 31,  /* half-hours outside 1..48, or not 28 days of prices and kinds */
+    GUXHAMOLE_MAKER_KIND = 32,    /* a day kind is neither 0 nor 1, or one of the two is missing */
+    GUXHAMOLE_TEXT = 33,          /* the buffer is too short for the text; shown by a length of 0 alone */
+    GUXHAMOLE_RECORD_BROKEN = 40, /* a record is missing or cut short, or its length is below 6 or not its known kind's */
+    GUXHAMOLE_RECORD_KIND = 41,   /* a record's kind, or the head's region total, doesn't belong there */
+    GUXHAMOLE_RECORD_REGION = 42  /* a record's region is none of the book's, or was given before */
 };
 
 /* What a book is opened with; money in cents. */
@@ -139,8 +143,15 @@ typedef struct guxhamole_reading {
 
 typedef struct guxhamole_stored {
     uint32_t number;
-    uint64_t length; /* of the image, in bytes */
+    uint64_t length; /* of the image, or of the interval's records, in bytes */
 } guxhamole_stored;
+
+typedef struct guxhamole_found {
+    uint32_t number;
+    uint64_t next;     /* the place after the interval */
+    uint32_t entry;    /* the interval's number */
+    uint32_t day_kind; /* 0..255: as the record has it */
+} guxhamole_found;
 
 typedef struct guxhamole_rows {
     uint32_t number;
@@ -183,6 +194,40 @@ guxhamole_entered guxhamole_enter(guxhamole_book book,
                                   const uint32_t *factors, size_t factors_length,
                                   const int32_t *schedule, size_t schedule_length,
                                   int32_t *table, size_t table_length);
+
+/* An interval as records, for loggers that hand intervals on: numbers are little-endian, signed ones in two's complement, and
+   with M = S + 1 markets a region the records are
+     head    length 12 (4 bytes), kind 16 (2), the entry's number (4), its day kind (1), R (1)
+     region  length 16 + 4 x M (4 bytes), kind 17 (2), the region (1), its mark (1), flow (4), factor (4) and M prices (4 each)
+   one head and R regions after it, each region once, GUXHAMOLE_INTERVAL(R, S) bytes in all. Intervals stand end to end.
+
+   guxhamole_interval_read reads the interval at place `at` of the records, its regions in any order, into the slices that an
+   entry takes, and answers the place after it; what stands there is not looked at. Any `at` may be asked for: one from which not
+   a whole interval follows is 40. It tests no range: whatever the fields hold is handed on, for the entry to refuse.
+     book                    whose R and S it has; which entry is its next doesn't matter
+     prices                  R x M, at region x M + market
+     marks, flows, factors   R each
+   Refusals: 10, 11, of the head 40, 41, then region after region 40, 41, 42. Refused: the four slices as they were, and zeros.
+   The four slices must overlap neither the records nor one another.
+
+   guxhamole_interval_write writes an interval's records upward, from region 0 on, as the first bytes of the buffer, and answers
+   their length; the bytes after them stay. The slices are an entry's, as above; no range is tested.
+   Refusals: 10, 11, 23. Refused: the buffer as it was. The buffer must overlap none of the slices.
+
+   Proved: what was written reads back as the same number, day kind and slices; and an interval that reads, its regions in upward
+   order, is written to the same bytes. */
+guxhamole_found guxhamole_interval_read(guxhamole_book book,
+                                        const uint8_t *records, size_t records_length, size_t at,
+                                        int32_t *prices, size_t prices_length,
+                                        uint8_t *marks, size_t marks_length,
+                                        int32_t *flows, size_t flows_length,
+                                        uint32_t *factors, size_t factors_length);
+guxhamole_stored guxhamole_interval_write(guxhamole_book book, uint32_t entry, uint8_t day_kind,
+                                          const int32_t *prices, size_t prices_length,
+                                          const uint8_t *marks, size_t marks_length,
+                                          const int32_t *flows, size_t flows_length,
+                                          const uint32_t *factors, size_t factors_length,
+                                          uint8_t *buffer, size_t buffer_length);
 
 /* Writes the book's image as the first bytes of the buffer, and answers its length; the bytes after it stay.
    Refusals: 10, 11, 22, 23. Refused: the buffer as it was. GUXHAMOLE_IMAGE_MAX(R, S, W) bytes always suffice. */
@@ -304,6 +349,11 @@ GUXHAMOLE_AT(reading, sum, 16);
 GUXHAMOLE_SIZE(stored, 16);
 GUXHAMOLE_AT(stored, number, 0);
 GUXHAMOLE_AT(stored, length, 8);
+GUXHAMOLE_SIZE(found, 24);
+GUXHAMOLE_AT(found, number, 0);
+GUXHAMOLE_AT(found, next, 8);
+GUXHAMOLE_AT(found, entry, 16);
+GUXHAMOLE_AT(found, day_kind, 20);
 GUXHAMOLE_SIZE(rows, 400);
 GUXHAMOLE_AT(rows, number, 0);
 GUXHAMOLE_AT(rows, place, 8);
