@@ -5,7 +5,12 @@
      accepted ..                    an interval, threshold or limits; the book with it is saved (box_files.h), safe from a crash
      given, saved, region ..        a schedule's row; a save; a report
      refused N (meaning) [at P]     by the book, which is as it was; docs/REFUSALS.md
-     bad line: why                  it is no line of box_lines.h, or a row of the schedule is lacking; nothing was called
+     bad line: why                  it is no line of box_lines.h, a file of records cannot be read or is longer than a day, or a row
+                                    of the schedule is lacking; nothing was called
+   A file of records is answered interval by interval, as if each stood in a line of its own, and then by
+     taken records to place P       to its end, which is P
+   or, where an interval is refused or lacks a row of the schedule, by that answer with ` in records at place P` after it, P being
+   the place at which the interval begins: those before it are accepted and saved, and it and those after it are not looked at.
    The details of an interval are each change of a period, and each price that publication changed: entry price -> published
    price; of a marked region, which is priced by schedule, every published price. They come before the save, so that a box that
    is killed has told them of every interval that it saved; they hold with the `accepted`, or with the next start's `entries taken`.
@@ -17,7 +22,9 @@
 
    Nothing is deduplicated. A feeder that doesn't know whether its last interval was saved sends it again: refused by 13, it was. A
    box that started on IMAGE.old may be one save behind: its feeder goes on from the `entries taken` that the start says, and sets
-   threshold and limits again. */
+   threshold and limits again. So does one that sent a file of records: an interval has INTERVAL bytes (box_market.h), so the one to
+   go on from stands at PLACE + INTERVAL x (entries taken - number of the interval at PLACE). A file that was refused at place P is
+   mended and sent from there. */
 #include "box_files.h"
 #include "box_lines.h"
 #include "box_market.h"
@@ -39,6 +46,7 @@ struct box {
     int32_t schedule[SCHEDULE];
     uint8_t given[PRICES * KINDS]; /* the schedule's rows that were given since the start */
     uint8_t image[IMAGE_MAX + 1];  /* one byte more, so that a longer file is seen to be longer */
+    uint8_t records[RECORDS_MOST + 1];
     struct box_files files;
 };
 
@@ -117,15 +125,21 @@ static int rows_lack(const struct box *box, const struct line *line)
     return 0;
 }
 
-static void take_interval(struct box *box, const struct line *line)
+/* Enters one interval, tells of it, saves and says `accepted`. Where that cannot be, answers 0, with the reason in `why` of
+   REFUSAL_TEXT bytes, and has said nothing. */
+static int take_interval(struct box *box, const struct line *line, char *why)
 {
     int32_t table[PRICES] = {0};
+    if (rows_lack(box, line)) {
+        snprintf(why, REFUSAL_TEXT, "bad line: a marked region's schedule was not given");
+        return 0;
+    }
     guxhamole_entered entered = guxhamole_enter(box->book, box->ring, RING, line->number, line->kind, line->prices, PRICES,
                                                 line->marks, REGIONS, line->flows, REGIONS, line->factors, REGIONS,
                                                 box->schedule, SCHEDULE, table, PRICES);
     if (entered.number != GUXHAMOLE_ACCEPTED) {
-        refused(entered.number, entered.place);
-        return;
+        refusal_text(entered.number, entered.place, why);
+        return 0;
     }
     tell_periods(&box->book, &entered.book);
     tell_prices(line, table);
@@ -133,6 +147,47 @@ static void take_interval(struct box *box, const struct line *line)
     box->book = entered.book;
     save(box);
     answer("accepted interval %" PRIu32 ", prices changed: %" PRIu32, line->number, entered.count);
+    return 1;
+}
+
+/* Takes the interval at a place of the file, as if a line brought it. Answers the place after it, or 0 with the reason in `why`. */
+static size_t take_record(struct box *box, size_t length, size_t at, char *why)
+{
+    struct line line;
+    guxhamole_found found = guxhamole_interval_read(box->book, box->records, length, at, line.prices, PRICES, line.marks, REGIONS,
+                                                    line.flows, REGIONS, line.factors, REGIONS);
+    if (found.number != GUXHAMOLE_ACCEPTED) {
+        refusal_text(found.number, 0, why);
+        return 0;
+    }
+    line.word = LINE_INTERVAL;
+    line.number = found.entry;
+    line.kind = (uint8_t)found.day_kind;
+    return take_interval(box, &line, why) ? (size_t)found.next : 0;
+}
+
+static void take_records(struct box *box, const struct line *line)
+{
+    char why[REFUSAL_TEXT];
+    long length = file_read(line->path, box->records, sizeof box->records);
+    if (length < 0) {
+        answer("bad line: its file cannot be read: %s", strerror(errno));
+        return;
+    }
+    if (length > RECORDS_MOST) {
+        answer("bad line: its file is longer than %d bytes", RECORDS_MOST);
+        return;
+    }
+    size_t at = line->place;
+    while (at != (size_t)length) {
+        size_t next = take_record(box, (size_t)length, at, why);
+        if (next == 0) {
+            answer("%s in records at place %zu", why, at);
+            return;
+        }
+        at = next;
+    }
+    answer("taken records to place %zu", at);
 }
 
 static void take_row(struct box *box, const struct line *line)
@@ -170,9 +225,14 @@ static void report(const struct box *box, const struct line *line)
 
 static void take(struct box *box, const struct line *line)
 {
+    char why[REFUSAL_TEXT];
     switch (line->word) {
     case LINE_INTERVAL:
-        take_interval(box, line);
+        if (!take_interval(box, line, why))
+            answer("%s", why);
+        break;
+    case LINE_RECORDS:
+        take_records(box, line);
         break;
     case LINE_SCHEDULE:
         take_row(box, line);
@@ -202,8 +262,6 @@ static int run(struct box *box)
         box_step("line read");
         if (wrong == NULL)
             wrong = line_parsed(text, &line);
-        if (wrong == NULL && line.word == LINE_INTERVAL && rows_lack(box, &line))
-            wrong = "a marked region's schedule was not given";
         if (wrong != NULL)
             answer("bad line: %s", wrong);
         else

@@ -104,6 +104,16 @@ static void interval(struct cursor *cursor, struct line *line)
         line->factors[region] = natural(cursor);
 }
 
+static void records(struct cursor *cursor, struct line *line)
+{
+    line->place = (size_t)number(cursor, 0, INT64_MAX);
+    skip_blanks(cursor);
+    line->path = cursor->at;
+    if (cursor->wrong == NULL && *cursor->at == 0)
+        cursor->wrong = "it names no file";
+    cursor->at += strlen(cursor->at);
+}
+
 static void schedule(struct cursor *cursor, struct line *line)
 {
     line->region = natural(cursor);
@@ -119,6 +129,9 @@ static void numbers(struct cursor *cursor, struct line *line)
     switch (line->word) {
     case LINE_INTERVAL:
         interval(cursor, line);
+        break;
+    case LINE_RECORDS:
+        records(cursor, line);
         break;
     case LINE_SCHEDULE:
         schedule(cursor, line);
@@ -144,7 +157,7 @@ const char *line_parsed(const char *text, struct line *line)
     static const struct {
         const char *name;
         enum line_word word;
-    } words[] = {{"interval", LINE_INTERVAL}, {"schedule", LINE_SCHEDULE}, {"report", LINE_REPORT},
+    } words[] = {{"interval", LINE_INTERVAL}, {"records", LINE_RECORDS}, {"schedule", LINE_SCHEDULE}, {"report", LINE_REPORT},
                  {"threshold", LINE_THRESHOLD}, {"limits", LINE_LIMITS}, {"save", LINE_SAVE}};
     size_t length = strcspn(text, " ");
     struct cursor cursor = {text + length, "its word is unknown"};

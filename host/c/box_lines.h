@@ -1,7 +1,11 @@
-/* The lines that a box reads. A line is a word and whole numbers in decimal, blanks between them, and ends in byte 10:
+/* The lines that a box reads. A line is a word and whole numbers in decimal, blanks between them, a file's name last where it has
+   one, and ends in byte 10:
 
      interval NUMBER KIND PRICES MARKS FLOWS FACTORS   an entry: 55 prices (region by region, energy first), 5 marks, 5 flows and 5
                                                        factors, as guxhamole_enter takes them
+     records PLACE PATH                                entries: the intervals that stand end to end in the file PATH (the line's
+                                                       rest, blanks in it too) from byte PLACE to its end, as
+                                                       guxhamole_interval_read takes them
      schedule REGION MARKET KIND PRICES                48 prices: the market's row of the suspension schedule for that day kind
      report REGION MARKET
      threshold CENTS
@@ -17,7 +21,7 @@
 /* The most bytes of a line: 72 numbers of 11 characters, with a blank each, have 864. */
 enum { LINE_MOST = 2000 };
 
-enum line_word { LINE_INTERVAL, LINE_SCHEDULE, LINE_REPORT, LINE_THRESHOLD, LINE_LIMITS, LINE_SAVE };
+enum line_word { LINE_INTERVAL, LINE_RECORDS, LINE_SCHEDULE, LINE_REPORT, LINE_THRESHOLD, LINE_LIMITS, LINE_SAVE };
 
 /* A line's numbers, each of the type that the call takes; those of other words are not set. */
 struct line {
@@ -27,6 +31,8 @@ struct line {
     int32_t prices[PRICES], flows[REGIONS], row[HALVES], cap, floor;
     uint32_t factors[REGIONS];
     int64_t threshold;
+    size_t place;
+    const char *path; /* in the line's text */
 };
 
 /* Reads the next line whole, into `text` of LINE_MOST + 1 bytes, without its end. Answers 0 where the input is at its end. `wrong`

@@ -17,7 +17,9 @@ enum {
     PRICES = GUXHAMOLE_PRICES(REGIONS, SERVICES),
     RING = GUXHAMOLE_RING(REGIONS, SERVICES, WINDOW),
     SCHEDULE = GUXHAMOLE_SCHEDULE(REGIONS, SERVICES, HALVES),
-    IMAGE_MAX = GUXHAMOLE_IMAGE_MAX(REGIONS, SERVICES, WINDOW)
+    IMAGE_MAX = GUXHAMOLE_IMAGE_MAX(REGIONS, SERVICES, WINDOW),
+    INTERVAL = GUXHAMOLE_INTERVAL(REGIONS, SERVICES),
+    RECORDS_MOST = 6 * HALVES * INTERVAL /* the longest file of records: a day's */
 };
 
 /* Regions 1 and 2 hang on region 0, regions 3 and 4 on region 2. The first entry is the first interval of a day. A threshold of

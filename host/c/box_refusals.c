@@ -27,6 +27,9 @@ static const char *meaning(uint32_t number)
     case GUXHAMOLE_IMAGE_KIND: return "an image of another kind";
     case GUXHAMOLE_IMAGE_FIELD: return "an image with a field out of range";
     case GUXHAMOLE_IMAGE_TOTAL: return "an image of another length than its counts say";
+    case GUXHAMOLE_RECORD_BROKEN: return "a record missing, cut short or of another length than its kind";
+    case GUXHAMOLE_RECORD_KIND: return "a record's kind or region total that doesn't belong there";
+    case GUXHAMOLE_RECORD_REGION: return "a record of an unknown region, or of one given before";
     default: return "unknown";
     }
 }
