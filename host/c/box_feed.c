@@ -1,12 +1,21 @@
 /* Feeds a box: prints the lines of a day and an hour of the real market. Region 3's schedule is given first. At eight in the
    morning region 3 is suspended for ten minutes; from five in the afternoon the energy of regions 0 and 1 spikes for an hour, and
-   region 1's first service for half an hour; the periods end with the day. `box_feed short` prints host/c/box.lines, a sample with
-   every kind of line. */
+   region 1's first service for half an hour; the periods end with the day. `box_feed records FOLDER` prints the same day with its
+   intervals in files of records, which it writes to FOLDER, each interval's regions upward; `box_feed shuffled FOLDER` the same in
+   every order. `box_feed short` prints host/c/box.lines, a sample with every kind of line, and `box_feed sample` the bytes of its
+   file of records, host/c/box.records. */
 #include "feed.h"
 
+#include <stdlib.h>
 #include <string.h>
 
-enum { DAY = 6 * HALVES, HOUR = 12, SUSPENDED = 3 };
+enum { DAY = 6 * HALVES, HOUR = 12, SUSPENDED = 3, PATH_MOST = 1000 };
+
+/* Where the intervals of a day go: to lines, or to the folder's files. */
+static const char *folder;
+static int shuffled;
+static FILE *file; /* the one that is being written, or null */
+static char path[PATH_MOST];
 
 static void put_schedule(void)
 {
@@ -42,6 +51,34 @@ static void put_reports(void)
             feed_line(stdout, &line);
 }
 
+static void put_interval(const struct line *line)
+{
+    int order[REGIONS];
+    if (folder == NULL) {
+        feed_line(stdout, line);
+        return;
+    }
+    if (file == NULL) {
+        snprintf(path, sizeof path, "%s/%u.records", folder, (unsigned)line->number);
+        file = fopen(path, "wb");
+    }
+    if (file == NULL)
+        exit(1);
+    feed_order(line->number, order);
+    feed_records(file, line, shuffled ? order : NULL);
+}
+
+/* Before a line of another word, the intervals so far are brought by one. */
+static void end_file(void)
+{
+    if (file == NULL)
+        return;
+    if (fclose(file) != 0)
+        exit(1);
+    printf("records 0 %s\n", path);
+    file = NULL;
+}
+
 static int between(int number, int from, int to)
 {
     return from <= number && number < to;
@@ -67,14 +104,38 @@ static void put_day(void)
 {
     put_schedule();
     for (int number = 0; number < DAY + HOUR; number++) {
-        if (number == 12 * HOUR)
-            put_threshold(8000000);
-        if (number == 23 * HOUR)
-            put_threshold(50000000);
+        if (number == 12 * HOUR || number == 23 * HOUR) {
+            end_file();
+            put_threshold(number == 12 * HOUR ? 8000000 : 50000000);
+        }
         struct line line = interval(number);
-        feed_line(stdout, &line);
+        put_interval(&line);
     }
+    end_file();
     put_reports();
+}
+
+/* The sample's file: two intervals that follow those of its lines, the second in another order, and one whose day kind is bad. */
+static void put_sample(void)
+{
+    int order[REGIONS];
+    for (int number = 7; number < 10; number++) {
+        struct line line = interval(17 * HOUR + number);
+        line.number = (uint32_t)number;
+        line.kind = number == 9 ? 7 : 0;
+        feed_order((uint32_t)number, order);
+        feed_records(stdout, &line, number == 8 ? order : NULL);
+    }
+}
+
+/* The file is taken up to its bad interval; not from its second one again, from within an interval or from beyond its end; and its
+   end is reached with nothing taken. */
+static void put_records(void)
+{
+    static const int places[] = {0, INTERVAL, 2 * INTERVAL + 1, 2 * INTERVAL + 12, 3 * INTERVAL, 3 * INTERVAL + 1};
+    for (size_t i = 0; i < sizeof places / sizeof *places; i++)
+        printf("records %d host/c/box.records\n", places[i]);
+    puts("records 0 host/c/no.records\nrecords 0 host/c\nrecords 0\nrecords -1 host/c/box.records");
 }
 
 static void put_bad_lines(void)
@@ -105,14 +166,22 @@ static void put_short(void)
     line.number = 6;
     line.prices[0] = 2030000;
     feed_line(stdout, &line);
+    put_records();
     puts("save");
     put_reports();
 }
 
 int main(int count, char **words)
 {
-    if (count > 1 && strcmp(words[1], "short") == 0)
+    const char *what = count > 1 ? words[1] : "";
+    if (count > 2) {
+        folder = words[2];
+        shuffled = strcmp(what, "shuffled") == 0;
+    }
+    if (strcmp(what, "short") == 0)
         put_short();
+    else if (strcmp(what, "sample") == 0)
+        put_sample();
     else
         put_day();
     return 0;

@@ -1,4 +1,4 @@
-/* Lines for a box, written from what they say. */
+/* Lines and records for a box, written from what they say. */
 #include "feed.h"
 
 #include <inttypes.h>
@@ -27,6 +27,9 @@ void feed_line(FILE *out, const struct line *line)
     case LINE_INTERVAL:
         put_interval(out, line);
         break;
+    case LINE_RECORDS:
+        fprintf(out, "records %zu %s", line->place, line->path);
+        break;
     case LINE_SCHEDULE:
         fprintf(out, "schedule %" PRIu32 " %" PRIu32 " %d", line->region, line->market, line->kind);
         put(out, line->row, HALVES);
@@ -45,6 +48,45 @@ void feed_line(FILE *out, const struct line *line)
         break;
     }
     putc('\n', out);
+}
+
+/* A number of so many bytes, the lowest first. */
+static void put_bytes(FILE *out, int width, uint32_t number)
+{
+    for (; width > 0; width--, number >>= 8)
+        putc((int)(number & 255), out);
+}
+
+void feed_records(FILE *out, const struct line *line, const int *order)
+{
+    put_bytes(out, 4, 12);
+    put_bytes(out, 2, 16);
+    put_bytes(out, 4, line->number);
+    put_bytes(out, 1, line->kind);
+    put_bytes(out, 1, REGIONS);
+    for (int i = 0; i < REGIONS; i++) {
+        int region = order == NULL ? i : order[i];
+        put_bytes(out, 4, 16 + 4 * MARKETS);
+        put_bytes(out, 2, 17);
+        put_bytes(out, 1, (uint32_t)region);
+        put_bytes(out, 1, line->marks[region]);
+        put_bytes(out, 4, (uint32_t)line->flows[region]);
+        put_bytes(out, 4, line->factors[region]);
+        for (int market = 0; market < MARKETS; market++)
+            put_bytes(out, 4, (uint32_t)line->prices[region * MARKETS + market]);
+    }
+}
+
+/* Region after region changes places with one before it, or with none. */
+void feed_order(uint32_t number, int *order)
+{
+    for (int region = 0; region < REGIONS; region++) {
+        uint32_t place = number % ((uint32_t)region + 1);
+        number /= (uint32_t)region + 1;
+        order[region] = region;
+        order[region] = order[place];
+        order[place] = region;
+    }
 }
 
 struct line feed_interval(void)
