@@ -24,7 +24,7 @@ static int32_t numbers[PRICES + REGIONS + SCHEDULE], month[168 * HALVES];
 static uint32_t factors[REGIONS], room[REGIONS];
 static uint8_t marks[REGIONS], image[LONGEST], calls[38 + ENTRY_RECORD + 14 + 6], answers[14 + ENTRY_ANSWER + 34 + 14];
 static size_t image_length, calls_length;
-static uint8_t kinds[28];
+static uint8_t kinds[28], records[GUXHAMOLE_INTERVAL(REGIONS, SERVICES)], read_marks[REGIONS];
 static guxhamole_settings settings;
 static guxhamole_book book;
 static volatile uint64_t told; /* so that no call is left out */
@@ -54,6 +54,18 @@ static void use_enter(void)
     told = entered.number;
 }
 
+static void use_write(void)
+{
+    told = guxhamole_interval_write(book, book.entries, 0, prices, PRICES, marks, REGIONS, flows, REGIONS, factors, REGIONS,
+                                    records, sizeof records).number;
+}
+
+static void use_read(void)
+{
+    told = guxhamole_interval_read(book, records, sizeof records, 0, table, PRICES, read_marks, REGIONS, numbers, REGIONS, room,
+                                   REGIONS).number;
+}
+
 static void use_replay(void)
 {
     told = guxhamole_replay(calls, calls_length, answers, sizeof answers, other, RING, ring, RING, image, LONGEST, numbers,
@@ -67,7 +79,7 @@ struct use {
     size_t most;
 };
 
-static struct use enter = {"enter", use_enter, 0}, load = {"load", use_load, 0};
+static struct use enter = {"enter", use_enter, 0}, load = {"load", use_load, 0}, read_records = {"interval read", use_read, 0};
 
 struct run {
     void (*call)(void);
@@ -164,6 +176,14 @@ static void measure_entries(int chain)
     expect(GUXHAMOLE_PRICE, &enter);
 }
 
+/* What was written is read; then its last region is given twice. */
+static void measure_reading(void)
+{
+    expect(0, &read_records);
+    records[sizeof records - (16 + 4 * MARKETS) + 6] = 0;
+    expect(GUXHAMOLE_RECORD_REGION, &read_records);
+}
+
 static void put(int width, uint64_t number)
 {
     put_number(calls, calls_length, width, number);
@@ -194,7 +214,7 @@ int main(void)
 {
     static struct use uses[] = {{"threshold", use_threshold, 0}, {"limits", use_limits, 0}, {"report", use_report, 0},
                                 {"store", use_store, 0}, {"image check", use_check, 0}, {"schedule", use_schedule, 0},
-                                {"open", use_open, 0}};
+                                {"interval write", use_write, 0}, {"open", use_open, 0}};
     static struct use others[] = {{"amount text", use_text, 0}, {"index", use_index, 0}, {"abi", use_abi, 0}};
     static struct use replay = {"replay", use_replay, 0};
     guxhamole_settings own = {REGIONS, SERVICES, WINDOW, HALVES, 0, {255, 0, 1, 2, 3, 4, 5, 6}, 10000, 60000, -60000};
@@ -214,6 +234,8 @@ int main(void)
         measure(&others[i]);
         within &= print(&others[i], GUXHAMOLE_STACK);
     }
+    measure_reading();
+    within &= print(&read_records, GUXHAMOLE_STACK);
     put_price(image, RING - 1, -1);
     expect(GUXHAMOLE_PRICE, &load);
     within &= print(&load, GUXHAMOLE_STACK);

@@ -133,7 +133,7 @@ static void images(void)
 /* A book with an entry's slices of zeros, of which every call is made. */
 static uint32_t refusals_of(guxhamole_book book, int32_t *ring, size_t places)
 {
-    static int32_t zeros[88 * 2 * 48], table[88];
+    static int32_t zeros[88 * 2 * 48], table[88], flows[8];
     static uint8_t marks[8], image[148 + 4 * RING_MOST];
     static uint32_t factors[8];
     guxhamole_kept threshold = guxhamole_set_threshold(book, 10000), limits = guxhamole_set_limits(book, 1, -1);
@@ -143,6 +143,10 @@ static uint32_t refusals_of(guxhamole_book book, int32_t *ring, size_t places)
         return 0;
     uint32_t number = entered.number;
     if (threshold.number != number || limits.number != number || guxhamole_report(book, 0, 0).number != number)
+        return 0;
+    guxhamole_found found = guxhamole_interval_read(book, image, sizeof image, 0, table, 88, marks, 8, flows, 8, factors, 8);
+    if (found.number != number ||
+        guxhamole_interval_write(book, 0, 0, zeros, 88, marks, 8, zeros, 8, factors, 8, image, sizeof image).number != number)
         return 0;
     return guxhamole_store(book, ring, places, image, sizeof image).number == number ? number : 0;
 }

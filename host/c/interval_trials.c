@@ -1,0 +1,167 @@
+/* Intervals to try the calls of interval records with, from a seed. */
+#include "interval_trials.h"
+
+#include "make.h"
+
+#include <stdio.h>
+#include <stdlib.h>
+#include <string.h>
+
+static size_t interval_length(const guxhamole_book *book)
+{
+    return GUXHAMOLE_INTERVAL(book->regions, book->services);
+}
+
+/* The place of a record of the interval: of the head, or of a region's. */
+static size_t record_place(const struct trial *trial, size_t record)
+{
+    return record == 0 ? trial->at : trial->at + 12 + (record - 1) * (16 + 4 * (trial->book.services + (size_t)1));
+}
+
+struct lengths right_lengths(const guxhamole_book *book)
+{
+    struct lengths right = {GUXHAMOLE_PRICES(book->regions, book->services), book->regions, book->regions, book->regions};
+    return right;
+}
+
+static guxhamole_book any_book(void)
+{
+    static uint8_t image[148 + 4 * 88];
+    static int32_t ring[88];
+    size_t length = any_image(1, image);
+    guxhamole_kept kept = guxhamole_load(image, length, ring, GUXHAMOLE_RING(image[6], image[7], 1));
+    if (kept.number != 0) {
+        printf("intervals test: a book was refused by %u\n", kept.number);
+        exit(1);
+    }
+    return kept.book;
+}
+
+static struct independent_interval any_interval(const guxhamole_book *book)
+{
+    struct independent_interval interval;
+    memset(&interval, 0, sizeof interval);
+    interval.entry = (uint32_t)(next() >> below(64));
+    interval.day_kind = (uint32_t)below(below(2) ? 3 : 256);
+    for (size_t i = 0; i < GUXHAMOLE_PRICES(book->regions, book->services); i++)
+        interval.prices[i] = (int32_t)(uint32_t)next() >> below(32);
+    for (size_t region = 0; region < book->regions; region++) {
+        interval.marks[region] = (uint8_t)(below(2) ? below(2) : next());
+        interval.flows[region] = (int32_t)(uint32_t)next() >> below(32);
+        interval.factors[region] = (uint32_t)next() >> below(32);
+    }
+    return interval;
+}
+
+/* The regions in upward order or, unless `upward`, in any. */
+static void any_order(unsigned regions, int upward, unsigned *order)
+{
+    for (unsigned i = 0; i < regions; i++) {
+        size_t other = upward ? i : below(i + 1);
+        order[i] = i;
+        order[i] = order[other];
+        order[other] = i;
+    }
+}
+
+void any_trial(struct trial *trial)
+{
+    unsigned order[8];
+    memset(trial, 0, sizeof *trial);
+    trial->book = any_book();
+    trial->upward = below(2) == 0 || trial->book.regions == 1;
+    trial->interval = any_interval(&trial->book);
+    trial->lent = right_lengths(&trial->book);
+    trial->at = below(2) ? 0 : below(50);
+    for (size_t i = 0; i < TRIAL_BYTES; i++)
+        trial->records[i] = (uint8_t)next();
+    any_order(trial->book.regions, trial->upward, order);
+    size_t length = independent_interval_write(trial->book.regions, trial->book.services, &trial->interval, order,
+                                               trial->records + trial->at);
+    trial->length = trial->at + length + (below(2) ? 0 : below(50));
+    trial->room = below(3) ? length + below(20) * below(2) : below(length + 1);
+}
+
+/* One field of one record becomes another number, of those that are almost right, or any. */
+static void damage_field(struct trial *trial)
+{
+    static const uint32_t numbers[] = {0, 1, 5, 6, 7, 8, 11, 12, 13, 15, 16, 17, 18, 19, 20, 24, 60, 61, 255, 256, 272, 273,
+                                       0x7fffffff, 0x80000000, 0xffffffff};
+    static const struct {
+        size_t at;
+        int width;
+    } fields[] = {{0, 4}, {0, 1}, {4, 2}, {4, 1}, {6, 1}};
+    size_t field = below(sizeof fields / sizeof *fields), record = below(trial->book.regions + 1u);
+    size_t place = record_place(trial, record) + fields[field].at;
+    uint64_t old = trial->records[place];
+    uint64_t number = below(2) ? numbers[below(sizeof numbers / sizeof *numbers)] : below(2) ? old + 1 : old - 1;
+    put_number(trial->records, place, fields[field].width, number);
+}
+
+/* A region's record is replaced by another's, or by the head. */
+static void repeat_record(struct trial *trial)
+{
+    size_t to = record_place(trial, 1 + below(trial->book.regions)), from = record_place(trial, below(trial->book.regions + 1u));
+    memmove(trial->records + to, trial->records + from, record_place(trial, 2) - record_place(trial, 1));
+}
+
+static void move_place(struct trial *trial)
+{
+    switch (below(4)) {
+    case 0:
+        trial->at = SIZE_MAX - below(2 * INTERVAL_MOST);
+        break;
+    case 1:
+        trial->at = trial->length + below(3);
+        break;
+    case 2:
+        trial->at += 1 + below(20);
+        break;
+    default:
+        trial->at = record_place(trial, 1 + below(trial->book.regions));
+    }
+}
+
+void damage_records(struct trial *trial)
+{
+    size_t end = trial->at + interval_length(&trial->book), any = trial->at + below(interval_length(&trial->book));
+    trial->upward = 0;
+    switch (below(8)) {
+    case 0:
+        trial->length = any;
+        break;
+    case 1:
+        trial->records[any] = (uint8_t)(trial->records[any] ^ 1u << below(8));
+        break;
+    case 2:
+        trial->records[trial->at + 11] = (uint8_t)(below(2) ? below(10) : next());
+        break;
+    case 3:
+        repeat_record(trial);
+        break;
+    case 4:
+        move_place(trial);
+        break;
+    case 5: /* a byte is lost: what follows stands one place too early */
+        memmove(trial->records + any, trial->records + any + 1, end - any - 1);
+        break;
+    default:
+        damage_field(trial);
+    }
+}
+
+void damage_book(struct trial *trial)
+{
+    uint8_t bytes[sizeof trial->book];
+    memcpy(bytes, &trial->book, sizeof bytes);
+    bytes[below(below(2) ? 72 : sizeof bytes)] = (uint8_t)(below(2) ? below(12) : next());
+    memcpy(&trial->book, bytes, sizeof bytes);
+    trial->upward = 0;
+}
+
+void damage_lengths(struct trial *trial)
+{
+    size_t *lengths[] = {&trial->lent.prices, &trial->lent.marks, &trial->lent.flows, &trial->lent.factors};
+    size_t *length = lengths[below(4)];
+    *length = below(3) == 0 ? below(9) : below(2) ? *length + 1 : *length - 1;
+}
