@@ -5,6 +5,7 @@
 #include "feed.h"
 #include "make.h"
 
+#include <stdlib.h>
 #include <string.h>
 
 enum { SUSPENDED = 3 };
@@ -60,7 +61,7 @@ static struct line any_interval(uint32_t number)
 }
 
 /* An interval that is refused by 13 to 17, or lacks a schedule; the number is the next one's. */
-static void put_refused(FILE *out, uint32_t number)
+static struct line refused_interval(uint32_t number)
 {
     struct line line = any_interval(number);
     switch (below(6)) {
@@ -82,7 +83,47 @@ static void put_refused(FILE *out, uint32_t number)
     default:
         line.marks[0] = 1;
     }
-    feed_line(out, &line);
+    return line;
+}
+
+/* What stands in a file behind its good intervals: nothing, an interval that is refused, or one that is cut short. */
+static void end_records(FILE *file, int which, uint32_t number)
+{
+    struct line line = refused_interval(number);
+    switch (which % 3) {
+    case 0:
+        break;
+    case 1:
+        feed_records(file, &line, NULL);
+        break;
+    default:
+        fwrite("\x0c\0\0\0\x10", 1, 5, file);
+    }
+}
+
+/* A file of up to four intervals, in any order of their regions; answers how many. */
+static uint32_t put_file(FILE *out, uint32_t number, uint32_t most, const char *folder)
+{
+    static int files;
+    char path[1000];
+    int order[REGIONS];
+    uint32_t count = (uint32_t)within(2, 4);
+    count = count < most ? count : most;
+    snprintf(path, sizeof path, "%s/%d.records", folder, files);
+    FILE *file = fopen(path, "wb");
+    if (file == NULL)
+        exit(1);
+    for (uint32_t i = 0; i < count; i++) {
+        struct line line = any_interval(number + i);
+        feed_order((uint32_t)below(1000), order);
+        feed_records(file, &line, order);
+        feed_line(out, &line);
+    }
+    end_records(file, files++, number + count);
+    if (fclose(file) != 0)
+        exit(1);
+    fprintf(out, "records %u %s\n", (unsigned)count * INTERVAL, path);
+    return count;
 }
 
 static void put_bad(FILE *out)
@@ -90,7 +131,8 @@ static void put_bad(FILE *out)
     static const char *const bad[] = {
         "", " save", "save now", "Save", "threshold", "threshold 12x", "threshold 9223372036854775808", "threshold --1",
         "threshold 1e6", "threshold 0x10", "limits 60000", "limits 60000 -2147483649", "limits 60000 -60000 0", "report 0",
-        "report -1 0", "report 4294967296 0", "interval 0 0 1 2 3", "interval", "schedule 5 0 0", "schedule 3 0 2"};
+        "report -1 0", "report 4294967296 0", "interval 0 0 1 2 3", "interval", "schedule 5 0 0", "schedule 3 0 2",
+        "records", "records 0", "records 0x0 file", "records 0 /no/such/file"};
     fprintf(out, "%s\n", bad[below(sizeof bad / sizeof *bad)]);
     if (below(4) == 0)
         fprintf(out, "report %*d\n", LINE_MOST, 0);
@@ -116,8 +158,9 @@ static void put_others(FILE *out, uint32_t number)
     line.market = (uint32_t)within(0, MARKETS);
     if (below(3) == 0)
         feed_line(out, &line);
+    struct line refused = refused_interval(number);
     if (below(4) == 0)
-        put_refused(out, number);
+        feed_line(out, &refused);
     if (below(5) == 0)
         put_bad(out);
     line.word = LINE_SAVE;
@@ -125,13 +168,16 @@ static void put_others(FILE *out, uint32_t number)
         feed_line(out, &line);
 }
 
-void kill_lines(FILE *out, int intervals)
+void kill_lines(FILE *out, int intervals, const char *folder)
 {
+    uint32_t count = (uint32_t)intervals, number = 0;
     put_schedule(out);
-    for (uint32_t number = 0; number < (uint32_t)intervals; number++) {
+    while (number < count) {
         put_settings(out);
         put_others(out, number);
-        struct line line = any_interval(number);
+        struct line line = any_interval(number++);
         feed_line(out, &line);
+        if (number % 2 == 0 && number < count)
+            number += put_file(out, number, count - number, folder);
     }
 }

@@ -2,11 +2,13 @@
    (host/c/run) and FOLDER an empty one.
 
    First the box plays the lines of kill_lines.h unkilled, and every beginning of them: what it answers to each line, and the
-   image and all reports after it. Then, moment by moment:
+   image and all reports after it; and the same once more with some of the intervals in files of records, which is how the others
+   are fed. Then, moment by moment:
    - killed: the box is ended by SIGKILL at one of its steps, started again on what the files hold, in every third moment ended
      once more, and started again. What it said up to its end is a beginning of what the unkilled box says; it comes back with the
      image and the reports of the lines that it had answered, or of one line more, and its answers from there on and its last
-     image are the unkilled box's.
+     image are the unkilled box's. An interval that was saved unsaid is sent again, in a line, and refused by 13; in a file of
+     records the feeder goes on from the next one.
    - damaged: IMAGE is cut, flipped or removed, now and then IMAGE.old too. The box says of each the refusal that the image check
      and the independent one have for its bytes, and starts on the first that loads, or not at all.
    Last the disk is full, and the folder is missing. All from one seed; a failure prints the seed and the moment, which repeat it
@@ -34,7 +36,7 @@ enum file_state { FILE_LOADS, FILE_MISSING, FILE_UNUSABLE };
 /* The bytes of details that a box told of each line without answering it, in this moment. */
 static size_t details_told[LINES_MOST + 1];
 
-static int kills, saved_unsaid, refusals, foreign, fallen_back, not_started, started;
+static int kills, saved_unsaid, in_files, refusals, foreign, fallen_back, not_started, started;
 
 static uint32_t number_at(const uint8_t *bytes, int width)
 {
@@ -167,14 +169,14 @@ static int play(int done, int first, long kill_at)
     struct image image;
     if (!say_start(&want, &image))
         fail("no image loads");
-    int more = ahead(&image, done);
+    int more = ahead(&image, done), from = more && world.paths[done] != NULL ? done + 1 : done;
     input.length = 0;
     if (!first)
         begin_again(&input, &want, done, done + more);
     int told = text_answers(&want);
-    for (int i = done; i < world.count; i++) {
+    add_lines(&input, from);
+    for (int i = from; i < world.count; i++) {
         int again = i == done && more && strncmp(world.lines[i], "interval", 8) == 0;
-        text_add(&input, "%s", world.lines[i]);
         text_add(&want, "%s", again ? "refused 13 (not the next entry's number)\n" : world.answers[i]);
     }
     step = kill_at;
@@ -186,7 +188,8 @@ static int play(int done, int first, long kill_at)
     if (!killed && (out->status != 0 || out->text.length != want.length))
         fail("it ended early");
     int answered = text_answers(&out->text) - told;
-    done += answered > 0 ? answered : 0;
+    done = from + (answered > 0 ? answered : 0);
+    in_files += killed && done < world.count && world.paths[done] != NULL;
     size_t details = details_after(&out->text);
     if (details > details_told[done])
         details_told[done] = details;
@@ -313,8 +316,7 @@ static void fail_saves(const char *folder)
     static struct text input, missing;
     no_files();
     input.length = 0;
-    for (int i = 0; i < world.count; i++)
-        text_add(&input, "%s", world.lines[i]);
+    add_lines(&input, 0);
     const struct outcome *out = run_box(world.image, input.bytes, 0, 1500);
     if (strstr(out->text.bytes, "not saved: ") == NULL || !WIFEXITED(out->status) || WEXITSTATUS(out->status) != 2)
         fail("a full disk");
@@ -366,8 +368,8 @@ int main(int count, char **words)
     fail_saves(words[2]);
     check_steps();
     no_files();
-    printf("%d lines of %d steps, %d kills, after %d of them a line more was saved than answered; %d damaged pairs of files: %d "
-           "refusals, %d books of another market, %d starts (%d on IMAGE.old), %d times none\n", world.count, world.step_count,
-           kills, saved_unsaid, DAMAGED, refusals, foreign, started, fallen_back, not_started);
+    printf("%d lines of %d steps, %d kills (%d in a file of records), after %d of them a line more was saved than answered; %d "
+           "damaged pairs of files: %d refusals, %d books of another market, %d starts (%d on IMAGE.old), %d times none\n",
+           world.count, world.step_count, kills, in_files, saved_unsaid, DAMAGED, refusals, foreign, started, fallen_back, not_started);
     return 0;
 }

@@ -16,7 +16,7 @@
 #include <sys/wait.h>
 #include <unistd.h>
 
-enum { INTERVALS = 26, QUESTIONS = PRICES };
+enum { INTERVALS = 34, QUESTIONS = PRICES };
 
 struct world world;
 uint64_t first_seed;
@@ -148,18 +148,41 @@ static char *first_answer(const char *from)
     return strndup(from, (size_t)(after_line(at) - from));
 }
 
-static void make_lines(void)
+/* The lines before a `records` line, and it, stand for what is in its file up to its place and from there on. */
+static void note_file(int last)
+{
+    int place = 0, path = 0;
+    if (sscanf(world.lines[last], "records %d %n", &place, &path) != 1 || place == 0)
+        return;
+    for (int i = last; place >= 0; i--, place -= INTERVAL) {
+        world.paths[i] = world.lines[last] + path;
+        world.places[i] = place;
+    }
+}
+
+void add_lines(struct text *input, int from)
+{
+    for (int i = from; i < world.count; i++)
+        if (world.paths[i] == NULL)
+            text_add(input, "%s", world.lines[i]);
+        else if (i == from || world.places[i] == 0)
+            text_add(input, "records %d %s", world.places[i], world.paths[i]);
+}
+
+static void make_lines(const char *folder)
 {
     char *text = NULL;
     size_t length = 0;
     FILE *out = open_memstream(&text, &length);
     if (out == NULL)
         fail("no memory");
-    kill_lines(out, INTERVALS);
+    kill_lines(out, INTERVALS, folder);
     fclose(out);
     for (const char *at = text; *at != 0 && world.count < LINES_MOST; at += strlen(world.lines[world.count++]))
         world.lines[world.count] = first_line(at);
     free(text);
+    for (int i = 0; i < world.count; i++)
+        note_file(i);
 }
 
 static void make_questions(void)
@@ -185,6 +208,25 @@ static const struct outcome *play_beginning(int count)
     return out;
 }
 
+/* Fed its files of records, the box answers and saves the same. The steps are those of this run. */
+static void learn_files(void)
+{
+    static struct text input, want;
+    struct image image;
+    no_files();
+    add_lines(&input, 0);
+    text_add(&want, "started on a new book\n");
+    for (int i = 0; i < world.count; i++)
+        text_add(&want, "%s", world.answers[i]);
+    setenv("BOX_MOMENTS", world.step_file, 1);
+    const struct outcome *out = run_box(world.image, input.bytes, 0, 0);
+    unsetenv("BOX_MOMENTS");
+    if (out->status != 0 || strcmp(out->text.bytes, want.bytes) != 0)
+        fail("the unkilled box answers lines and records in two ways");
+    if (!image_read(world.image, &image) || !image_same(&image, &world.images[world.count]))
+        fail("the unkilled box saves lines and records in two ways");
+}
+
 static void learn_steps(void)
 {
     char name[100];
@@ -195,7 +237,6 @@ static void learn_steps(void)
     }
     if (file == NULL || fclose(file) != 0)
         fail("the box told no steps");
-    world.step_count -= 3 * QUESTIONS; /* line, before answer, after answer: not of the lines */
 }
 
 /* What the box says to the first `count` lines, all but the last of which are known; and what it then has. */
@@ -221,12 +262,11 @@ void learn(const char *box, const char *folder)
     snprintf(world.new_image, sizeof world.new_image, "%s/image.new", folder);
     snprintf(world.input, sizeof world.input, "%s/lines", folder);
     snprintf(world.step_file, sizeof world.step_file, "%s/steps", folder);
-    make_lines();
+    make_lines(folder);
     make_questions();
-    setenv("BOX_MOMENTS", world.step_file, 1);
     for (int count = 0; count <= world.count; count++)
         learn_beginning(count);
     image_read(world.old_image, &world.last_old);
-    unsetenv("BOX_MOMENTS");
+    learn_files();
     learn_steps();
 }

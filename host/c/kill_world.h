@@ -36,6 +36,8 @@ struct world {
     char image[1000], old_image[1000], new_image[1000], input[1000], step_file[1000];
     int count;                           /* of lines */
     char *lines[LINES_MOST];             /* each with its end */
+    const char *paths[LINES_MOST];       /* the file of records that brings it as well, with the line's end, or null */
+    int places[LINES_MOST];              /* its place there */
     char *answers[LINES_MOST];           /* an unkilled box's to each line, details and all */
     struct image images[LINES_MOST + 1]; /* IMAGE after so many lines */
     struct image last_old;               /* IMAGE.old after all lines */
@@ -75,7 +77,10 @@ void no_files(void);
    bytes, or any number if 0. */
 const struct outcome *run_box(const char *image, const char *input, long kill_at, size_t most);
 
-/* Makes the lines, and learns what an unkilled box does with them. */
+/* The lines from `from` on as a box is fed them: those of a file of records by one line. */
+void add_lines(struct text *input, int from);
+
+/* Makes the lines, and learns what an unkilled box does with them, each by itself and those of a file by one. */
 void learn(const char *box, const char *folder);
 
 #endif
