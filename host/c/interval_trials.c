@@ -1,4 +1,5 @@
-/* Intervals to try the calls of interval records with, from a seed. */
+/* Intervals to try the calls of interval records with, from a seed. No expression draws two numbers whose order is the compiler's to
+   choose: a seed makes the same trial in every build. */
 #include "interval_trials.h"
 
 #include "make.h"
@@ -37,18 +38,31 @@ static guxhamole_book any_book(void)
     return kept.book;
 }
 
+/* A number of any length in bits. */
+static uint32_t any_word(void)
+{
+    uint32_t word = (uint32_t)next();
+    return word >> below(32);
+}
+
+static int32_t any_signed(void)
+{
+    int32_t size = (int32_t)(any_word() >> 1);
+    return below(2) ? size : -size - 1;
+}
+
 static struct independent_interval any_interval(const guxhamole_book *book)
 {
     struct independent_interval interval;
     memset(&interval, 0, sizeof interval);
-    interval.entry = (uint32_t)(next() >> below(64));
+    interval.entry = any_word();
     interval.day_kind = (uint32_t)below(below(2) ? 3 : 256);
     for (size_t i = 0; i < GUXHAMOLE_PRICES(book->regions, book->services); i++)
-        interval.prices[i] = (int32_t)(uint32_t)next() >> below(32);
+        interval.prices[i] = any_signed();
     for (size_t region = 0; region < book->regions; region++) {
         interval.marks[region] = (uint8_t)(below(2) ? below(2) : next());
-        interval.flows[region] = (int32_t)(uint32_t)next() >> below(32);
-        interval.factors[region] = (uint32_t)next() >> below(32);
+        interval.flows[region] = any_signed();
+        interval.factors[region] = any_word();
     }
     return interval;
 }
@@ -79,7 +93,7 @@ void any_trial(struct trial *trial)
     size_t length = independent_interval_write(trial->book.regions, trial->book.services, &trial->interval, order,
                                                trial->records + trial->at);
     trial->length = trial->at + length + (below(2) ? 0 : below(50));
-    trial->room = below(3) ? length + below(20) * below(2) : below(length + 1);
+    trial->room = below(3) == 0 ? below(length + 1) : below(2) ? length : length + below(20);
 }
 
 /* One field of one record becomes another number, of those that are almost right, or any. */
@@ -105,6 +119,15 @@ static void repeat_record(struct trial *trial)
     memmove(trial->records + to, trial->records + from, record_place(trial, 2) - record_place(trial, 1));
 }
 
+/* A short record where another is due; the bytes end about where it does. */
+static void end_early(struct trial *trial)
+{
+    size_t place = record_place(trial, below(trial->book.regions + 1u)), length = 5 + below(5);
+    put_number(trial->records, place, 4, length);
+    put_number(trial->records, place + 4, 2, below(2) ? 16 + below(3) : next());
+    trial->length = place + length + below(3) - 1;
+}
+
 static void move_place(struct trial *trial)
 {
     switch (below(4)) {
@@ -126,7 +149,7 @@ void damage_records(struct trial *trial)
 {
     size_t end = trial->at + interval_length(&trial->book), any = trial->at + below(interval_length(&trial->book));
     trial->upward = 0;
-    switch (below(8)) {
+    switch (below(9)) {
     case 0:
         trial->length = any;
         break;
@@ -145,6 +168,9 @@ void damage_records(struct trial *trial)
     case 5: /* a byte is lost: what follows stands one place too early */
         memmove(trial->records + any, trial->records + any + 1, end - any - 1);
         break;
+    case 6:
+        end_early(trial);
+        break;
     default:
         damage_field(trial);
     }
@@ -154,7 +180,8 @@ void damage_book(struct trial *trial)
 {
     uint8_t bytes[sizeof trial->book];
     memcpy(bytes, &trial->book, sizeof bytes);
-    bytes[below(below(2) ? 72 : sizeof bytes)] = (uint8_t)(below(2) ? below(12) : next());
+    size_t at = below(below(2) ? 72 : sizeof bytes);
+    bytes[at] = (uint8_t)(below(2) ? below(12) : next());
     memcpy(&trial->book, bytes, sizeof bytes);
     trial->upward = 0;
 }

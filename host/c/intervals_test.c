@@ -12,7 +12,7 @@
 #include <stdlib.h>
 #include <string.h>
 
-enum { TRIALS = 60000, OLD = 77 };
+enum { TRIALS = 40000, OLD = 77 };
 
 static long read_seen[64], write_seen[64], cases, round_trips;
 static int part = 1;
@@ -283,6 +283,8 @@ static void strange_cases(void)
 {
     add(0, 12), now.records[11] = 3, expect("a total of 3", 0, 41, 0);
     add_record(6, 99, 6), add(0, 52), expect("an unknown kind", 0, 41, 0);
+    add_record(6, 99, 6), expect("an unknown kind, and its end the last", 0, 41, 0);
+    add(0, 12), add_record(6, 99, 6), expect("an unknown kind where a region is due", 0, 41, 0);
     add(12, 52), expect("a region where a head is due", 0, 41, 0);
     add(0, 12), add(0, 52), expect("a head where a region is due", 0, 41, 0);
     add(0, 32), now.records[18] = 2, expect("region 2", 0, 42, 0);
