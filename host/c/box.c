@@ -5,12 +5,12 @@
      accepted ..                    an interval, threshold or limits; the book with it is saved (box_files.h), safe from a crash
      given, saved, region ..        a schedule's row; a save; a report
      refused N (meaning) [at P]     by the book, which is as it was; docs/REFUSALS.md
-     bad line: why                  it is no line of box_lines.h, a file of records cannot be read or is longer than a day, or a row
-                                    of the schedule is lacking; nothing was called
+     bad line: why                  it is no line of box_lines.h, its file of records cannot be read or is longer than a day's, or
+                                    a row of the schedule is lacking; nothing was entered
    A file of records is answered interval by interval, as if each stood in a line of its own, and then by
      taken records to place P       to its end, which is P
    or, where an interval is refused or lacks a row of the schedule, by that answer with ` in records at place P` after it, P being
-   the place at which the interval begins: those before it are accepted and saved, and it and those after it are not looked at.
+   the place at which the interval begins: those before it are accepted and saved, and neither it nor those after it are taken.
    The details of an interval are each change of a period, and each price that publication changed: entry price -> published
    price; of a marked region, which is priced by schedule, every published price. They come before the save, so that a box that
    is killed has told them of every interval that it saved; they hold with the `accepted`, or with the next start's `entries taken`.
@@ -22,9 +22,9 @@
 
    Nothing is deduplicated. A feeder that doesn't know whether its last interval was saved sends it again: refused by 13, it was. A
    box that started on IMAGE.old may be one save behind: its feeder goes on from the `entries taken` that the start says, and sets
-   threshold and limits again. So does one that sent a file of records: an interval has INTERVAL bytes (box_market.h), so the one to
-   go on from stands at PLACE + INTERVAL x (entries taken - number of the interval at PLACE). A file that was refused at place P is
-   mended and sent from there. */
+   threshold and limits again. A feeder of a file of records goes on after a crash by the same number and the place: an interval has
+   INTERVAL bytes (box_market.h), so the next one stands at PLACE + INTERVAL x (entries taken - number of the interval at PLACE).
+   A file that was refused at place P is mended and sent again from there. */
 #include "box_files.h"
 #include "box_lines.h"
 #include "box_market.h"

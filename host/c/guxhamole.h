@@ -202,8 +202,8 @@ guxhamole_entered guxhamole_enter(guxhamole_book book,
    one head and R regions after it, each region once, GUXHAMOLE_INTERVAL(R, S) bytes in all. Intervals stand end to end.
 
    guxhamole_interval_read reads the interval at place `at` of the records, its regions in any order, into the slices that an
-   entry takes, and answers the place after it; what stands there is not looked at. Any `at` may be asked for: one from which not
-   a whole interval follows is 40. It tests no range: whatever the fields hold is handed on, for the entry to refuse.
+   entry takes, and answers the place after it; what stands there is not looked at. Any `at` may be asked for, and one at the end
+   of the records or beyond is 40. No range is tested: whatever the fields hold is handed on, for the entry to refuse.
      book                    whose R and S it has; which entry is its next doesn't matter
      prices                  R x M, at region x M + market
      marks, flows, factors   R each
