@@ -1,6 +1,6 @@
 //! The book that a host keeps, what it is opened with, what an entry lends and what a report gives.
 
-use crate::{image_length, prices_length, raw, ring_length, schedule_length};
+use crate::{image_length, interval_length, prices_length, raw, ring_length, schedule_length};
 use crate::{Refusal, BOOK_LENGTH, IMAGE_HEAD};
 
 /// What a book is opened with. The default is the real market: five linked regions, ten services, a week's window, half-hours of
@@ -321,6 +321,11 @@ impl Book {
             self.0.services.into(),
             self.0.halves.into(),
         )
+    }
+
+    /// Bytes of an interval's records.
+    pub fn interval_length(&self) -> usize {
+        interval_length(self.0.regions.into(), self.0.services.into())
     }
 
     /// Bytes of the book's image as it is now.

@@ -33,6 +33,9 @@ pub const MOST_SCHEDULE: usize = schedule_length(MOST_REGIONS, MOST_MARKETS - 1,
 /// The longest image.
 pub const MOST_IMAGE: usize = image_length(MOST_REGIONS, MOST_MARKETS - 1, MOST_WINDOW);
 
+/// The longest interval's records.
+pub const MOST_INTERVAL: usize = interval_length(MOST_REGIONS, MOST_MARKETS - 1);
+
 /// Prices and table of an entry: R × M.
 pub const fn prices_length(regions: usize, services: usize) -> usize {
     regions * (services + 1)
@@ -57,4 +60,14 @@ pub const fn schedule_length(regions: usize, services: usize, halves: usize) -> 
 /// The image of a book whose windows are full, in bytes: no image of the book is longer.
 pub const fn image_length(regions: usize, services: usize, window: usize) -> usize {
     IMAGE_HEAD + 4 * ring_length(regions, services, window)
+}
+
+/// The records of an interval, in bytes: a head of 12, then a record of 16 + 4 × M a region.
+///
+/// ```
+/// // The real market's.
+/// assert_eq!(guxhamole::interval_length(5, 10), 312);
+/// ```
+pub const fn interval_length(regions: usize, services: usize) -> usize {
+    12 + regions * (16 + 4 * (services + 1))
 }

@@ -2,7 +2,8 @@
 //! ring that the host keeps. No allocation, no `std`.
 //!
 //! Proved of each function, for all arguments: it ends, reads and writes only what it is lent, keeps no pointer and no state of
-//! its own, and its whole outcome is that of the definitions of document 01. A refused call changes nothing.
+//! its own, and its whole outcome is that of the definitions of document 01, and of document 02 for interval records
+//! ([`Book::read_interval`], [`Book::write_interval`]). A refused call changes nothing.
 //!
 //! # What the host must do
 //!
@@ -61,6 +62,7 @@ extern crate std;
 
 mod book;
 mod functions;
+mod interval;
 mod lengths;
 mod refusal;
 
@@ -69,5 +71,6 @@ pub mod raw;
 
 pub use book::{Book, Entry, Report, Settings};
 pub use functions::{abi, amount_text, check, index, replay, schedule, Schedule, ABI};
+pub use interval::{Found, Interval, IntervalMut};
 pub use lengths::*;
 pub use refusal::Refusal;

@@ -75,13 +75,24 @@ pub struct Reading {
     pub sum: i64,
 }
 
-/// The answer of a store.
+/// The answer of a store and of an interval's writing.
 #[repr(C)]
 #[derive(Clone, Copy, Debug, PartialEq, Eq)]
 #[allow(missing_docs)]
 pub struct Stored {
     pub number: u32,
     pub length: u64,
+}
+
+/// The answer of an interval's reading.
+#[repr(C)]
+#[derive(Clone, Copy, Debug, PartialEq, Eq)]
+#[allow(missing_docs)]
+pub struct Found {
+    pub number: u32,
+    pub next: u64,
+    pub entry: u32,
+    pub day_kind: u32,
 }
 
 /// The answer of the schedule maker.
@@ -118,6 +129,9 @@ const _: () = {
     assert!(size_of::<Reading>() == 24 && offset_of!(Reading, sum) == 16);
     assert!(offset_of!(Reading, counted) == 4 && offset_of!(Reading, mark) == 8);
     assert!(size_of::<Stored>() == 16 && offset_of!(Stored, length) == 8);
+    assert!(size_of::<Found>() == 24 && offset_of!(Found, number) == 0);
+    assert!(offset_of!(Found, next) == 8 && offset_of!(Found, entry) == 16);
+    assert!(offset_of!(Found, day_kind) == 20);
     assert!(size_of::<Rows>() == 400 && offset_of!(Rows, place) == 8);
     assert!(offset_of!(Rows, weekday) == 16 && offset_of!(Rows, weekend) == 208);
 };
@@ -143,7 +157,7 @@ impl Book {
 }
 
 mod face {
-    use super::{Book, Entered, Kept, Reading, Rows, Settings, Stored};
+    use super::{Book, Entered, Found, Kept, Reading, Rows, Settings, Stored};
 
     extern "C" {
         pub fn guxhamole_open(settings: Settings, ring: *mut i32, ring_length: usize) -> Kept;
@@ -182,6 +196,35 @@ mod face {
             ring: *mut i32,
             ring_length: usize,
         ) -> Kept;
+        pub fn guxhamole_interval_read(
+            book: Book,
+            records: *const u8,
+            records_length: usize,
+            at: usize,
+            prices: *mut i32,
+            prices_length: usize,
+            marks: *mut u8,
+            marks_length: usize,
+            flows: *mut i32,
+            flows_length: usize,
+            factors: *mut u32,
+            factors_length: usize,
+        ) -> Found;
+        pub fn guxhamole_interval_write(
+            book: Book,
+            entry: u32,
+            day_kind: u8,
+            prices: *const i32,
+            prices_length: usize,
+            marks: *const u8,
+            marks_length: usize,
+            flows: *const i32,
+            flows_length: usize,
+            factors: *const u32,
+            factors_length: usize,
+            buffer: *mut u8,
+            buffer_length: usize,
+        ) -> Stored;
         pub fn guxhamole_schedule(
             halves: u8,
             cap: i32,
@@ -295,6 +338,54 @@ pub fn load(image: &[u8], ring: &mut [i32]) -> Kept {
     let (places, length) = (ring.as_mut_ptr(), ring.len());
     // SAFETY: the slices are as said above.
     unsafe { face::guxhamole_load(image.as_ptr(), image.len(), places, length) }
+}
+
+/// "10, 11 … come first; per record 40, 41, 42." Any place is allowed, beyond the records' end too.
+pub fn interval_read(
+    book: Book,
+    records: &[u8],
+    at: usize,
+    interval: crate::IntervalMut<'_>,
+) -> Found {
+    // SAFETY: the slices are as said above.
+    unsafe {
+        face::guxhamole_interval_read(
+            book,
+            records.as_ptr(),
+            records.len(),
+            at,
+            interval.prices.as_mut_ptr(),
+            interval.prices.len(),
+            interval.marks.as_mut_ptr(),
+            interval.marks.len(),
+            interval.flows.as_mut_ptr(),
+            interval.flows.len(),
+            interval.factors.as_mut_ptr(),
+            interval.factors.len(),
+        )
+    }
+}
+
+/// "10, 11 and the writer's 23".
+pub fn interval_write(book: Book, interval: crate::Interval<'_>, buffer: &mut [u8]) -> Stored {
+    // SAFETY: the slices are as said above; those of the interval are read alone, and may overlap each other.
+    unsafe {
+        face::guxhamole_interval_write(
+            book,
+            interval.number,
+            interval.day_kind,
+            interval.prices.as_ptr(),
+            interval.prices.len(),
+            interval.marks.as_ptr(),
+            interval.marks.len(),
+            interval.flows.as_ptr(),
+            interval.flows.len(),
+            interval.factors.as_ptr(),
+            interval.factors.len(),
+            buffer.as_mut_ptr(),
+            buffer.len(),
+        )
+    }
 }
 
 /// "Maker: 31 H or lengths; 32 kind not 0 or 1, or one kind missing; 19; 16 with place." 0 is a service, anything else energy.

@@ -42,7 +42,7 @@ pub enum Refusal {
     Market,
     /// 22: a counted price of the ring is out of range, or a sum isn't the total of its prices.
     Sums,
-    /// 23: the buffer is shorter than the image.
+    /// 23: the buffer is shorter than the image, or than the interval's records.
     Buffer,
     /// 24: fewer than 148 bytes, or a length field that isn't the image's length.
     ImageLength,
@@ -60,6 +60,12 @@ pub enum Refusal {
     MakerKinds,
     /// 33: the buffer is too short for the text.
     Text,
+    /// 40: a record of an interval is missing, cut short, or of another length than its kind has.
+    Broken,
+    /// 41: a record's kind, or the region total of an interval's head, doesn't belong there.
+    RecordKind,
+    /// 42: a record is of a region from R up, or of one that was given before.
+    RecordRegion,
     /// A number that this crate doesn't know: the archive is a later one ([`crate::abi`]).
     Other(u32),
 }
@@ -91,6 +97,9 @@ impl Refusal {
             31 => Refusal::MakerSizes,
             32 => Refusal::MakerKinds,
             33 => Refusal::Text,
+            40 => Refusal::Broken,
+            41 => Refusal::RecordKind,
+            42 => Refusal::RecordRegion,
             _ => Refusal::Other(number),
         }
     }
@@ -103,7 +112,7 @@ impl Refusal {
         }
     }
 
-    /// Document 01's number.
+    /// Document 01's number, or document 02's from 40 on.
     pub fn number(self) -> u32 {
         self.described().0
     }
@@ -132,7 +141,7 @@ impl Refusal {
             Refusal::Setting => (20, "a setting out of range"),
             Refusal::Market => (21, "no such region or market"),
             Refusal::Sums => (22, "the ring is not the book's"),
-            Refusal::Buffer => (23, "a buffer shorter than the image"),
+            Refusal::Buffer => (23, "a buffer shorter than the image or the interval"),
             Refusal::ImageLength => (24, "the image was cut, or is none"),
             Refusal::ImageKind => (25, "no image of a book"),
             Refusal::ImageField => (26, "a field of the image outside its limits"),
@@ -141,6 +150,15 @@ impl Refusal {
             Refusal::MakerSizes => (31, "half-hours or lengths of the schedule maker"),
             Refusal::MakerKinds => (32, "day kinds of the schedule maker"),
             Refusal::Text => (33, "a buffer too short for the text"),
+            Refusal::Broken => (
+                40,
+                "a record missing, cut short, or of another length than its kind has",
+            ),
+            Refusal::RecordKind => (
+                41,
+                "a record's kind, or a head's region total, that doesn't belong there",
+            ),
+            Refusal::RecordRegion => (42, "a record of a region from R up or given before"),
             Refusal::Other(number) => (number, "a refusal of a later archive"),
         }
     }
@@ -170,7 +188,8 @@ mod tests {
             assert_eq!(refusal.number(), number);
             let placed = (15..=17).contains(&number);
             assert_eq!(refusal.place(), placed.then_some(7));
-            let known = (10..=27).contains(&number) || (30..=33).contains(&number);
+            let known = [10..=27, 30..=33, 40..=42];
+            let known = known.iter().any(|numbers| numbers.contains(&number));
             assert_eq!(refusal == Refusal::Other(number), !known);
         }
     }
