@@ -78,7 +78,7 @@ impl Book {
     }
 
     /// "Any call on a book: 10, it is closed or a field is outside its limits".
-    fn sound(&self) -> Result<(), Refusal> {
+    pub(crate) fn sound(&self) -> Result<(), Refusal> {
         unless(self.fault().is_none(), 10)
     }
 

@@ -1,0 +1,192 @@
+//! "Interval records from the plant bus", request 2026-01 of document 02, whose words are quoted here: a reader that goes from
+//! record to record, and a writer.
+
+use crate::book::Book;
+use crate::rules::*;
+use std::collections::BTreeMap;
+
+/// "Kind 16 heads an interval"
+const HEAD: u16 = 16;
+
+/// "Kind 17 is a region"
+const REGION: u16 = 17;
+
+/// An entry, "its schedule aside".
+#[derive(Clone, Debug, PartialEq, Eq)]
+pub struct Interval {
+    pub number: u32,
+    pub kind: u8,
+    pub prices: Vec<i32>,
+    pub marks: Vec<u8>,
+    pub flows: Vec<i32>,
+    pub factors: Vec<u32>,
+}
+
+impl Interval {
+    /// The lengths that an entry's slices have; else 11.
+    fn fits(&self, shape: &Shape) -> bool {
+        self.prices.len() == shape.prices()
+            && self.marks.len() == shape.regions
+            && self.flows.len() == shape.regions
+            && self.factors.len() == shape.regions
+    }
+}
+
+/// "A record, little-endian throughout, is its length (4 bytes, the whole record), a two-byte kind, then the body."
+fn record(kind: u16, body: &[u8]) -> Vec<u8> {
+    let length = (4 + 2 + body.len()) as u32;
+    [&length.to_le_bytes()[..], &kind.to_le_bytes(), body].concat()
+}
+
+/// The length that a known kind has, counted on a record of zeros.
+fn known_length(kind: u16, markets: usize) -> Option<usize> {
+    match kind {
+        HEAD => Some(head(0, 0, 0).len()),
+        REGION => Some(region(0, 0, 0, 0, &vec![0; markets]).len()),
+        _ => None,
+    }
+}
+
+/// "number (4), day kind (1), regions (1)"
+fn head(number: u32, kind: u8, regions: u8) -> Vec<u8> {
+    record(
+        HEAD,
+        &[&number.to_le_bytes()[..], &[kind, regions]].concat(),
+    )
+}
+
+/// "region (1), mark (1), flow (4), factor (4), M prices (4 each)"
+fn region(region: u8, mark: u8, flow: i32, factor: u32, prices: &[i32]) -> Vec<u8> {
+    let mut body = vec![region, mark];
+    body.extend(flow.to_le_bytes());
+    body.extend(factor.to_le_bytes());
+    for price in prices {
+        body.extend(price.to_le_bytes());
+    }
+    record(REGION, &body)
+}
+
+/// Bytes that are taken from the front.
+struct Front<'a> {
+    rest: &'a [u8],
+}
+
+impl<'a> Front<'a> {
+    fn take(&mut self, length: usize) -> Option<&'a [u8]> {
+        let (taken, rest) = self.rest.split_at_checked(length)?;
+        self.rest = rest;
+        Some(taken)
+    }
+
+    /// The next bytes of a body that has them.
+    fn field<const WIDTH: usize>(&mut self) -> [u8; WIDTH] {
+        let taken = self.take(WIDTH).expect("a body as long as its kind's");
+        taken.try_into().expect("the width taken")
+    }
+
+    fn byte(&mut self) -> u8 {
+        self.field::<1>()[0]
+    }
+
+    /// The next record's kind and body: "40: a record missing or cut short, a length below 6 or, for a known kind, another than
+    /// it has".
+    fn record(&mut self, markets: usize) -> Result<(u16, Front<'a>), Refusal> {
+        let mut start = Front { rest: self.rest };
+        let (Some(length), Some(kind)) = (start.take(4), start.take(2)) else {
+            return Err(refusal(40));
+        };
+        let length = length
+            .iter()
+            .rev()
+            .fold(0, |n, &b| 256 * n + usize::from(b));
+        let kind = u16::from(kind[0]) + 256 * u16::from(kind[1]);
+        unless(length >= 6, 40)?;
+        let rest = self.take(length).ok_or(refusal(40))?;
+        let known = known_length(kind, markets);
+        unless(known.is_none_or(|known| known == length), 40)?;
+        Ok((kind, Front { rest: &rest[6..] }))
+    }
+
+    /// The body of a record of the kind that is due; "41: a kind … that doesn't belong there".
+    fn due(&mut self, kind: u16, markets: usize) -> Result<Front<'a>, Refusal> {
+        let (found, body) = self.record(markets)?;
+        unless(found == kind, 41)?;
+        Ok(body)
+    }
+}
+
+impl Book {
+    /// "given a book and a place, a call reads one and answers the place after it". What it reads takes the place of what is
+    /// lent. "10, 11 … come first; per record 40, 41, 42."
+    pub fn read_interval(
+        &self,
+        records: &[u8],
+        at: usize,
+        lent: &mut Interval,
+    ) -> Result<usize, Refusal> {
+        self.sound()?;
+        let shape = self.shape();
+        unless(lent.fits(&shape), 11)?;
+        let mut front = Front {
+            rest: records.get(at..).unwrap_or(&[]),
+        };
+        let mut body = front.due(HEAD, shape.markets())?;
+        let (number, kind) = (u32::from_le_bytes(body.field()), body.byte());
+        // "or a region total in the head, that doesn't belong there"
+        unless(usize::from(body.byte()) == shape.regions, 41)?;
+        // "One head is followed by R region records, each region once, in any order"
+        let mut bodies = BTreeMap::new();
+        for _ in 0..shape.regions {
+            let mut body = front.due(REGION, shape.markets())?;
+            let region = usize::from(body.byte());
+            // "42: a region from R up or given before"
+            unless(region < shape.regions, 42)?;
+            unless(bodies.insert(region, body).is_none(), 42)?;
+        }
+        *lent = Interval {
+            number,
+            kind,
+            ..in_order(bodies.into_values(), shape.markets())
+        };
+        Ok(records.len() - front.rest.len())
+    }
+
+    /// "our writer goes upward, from the buffer's start": the interval's length. "10, 11 and the writer's 23".
+    pub fn write_interval(&self, interval: &Interval, buffer: &mut [u8]) -> Result<usize, Refusal> {
+        self.sound()?;
+        let shape = self.shape();
+        unless(interval.fits(&shape), 11)?;
+        let mut bytes = head(interval.number, interval.kind, self.regions);
+        for r in 0..shape.regions {
+            let prices: Vec<i32> = (0..shape.markets())
+                .map(|market| interval.prices[shape.place(r, market)])
+                .collect();
+            let (mark, flow) = (interval.marks[r], interval.flows[r]);
+            bytes.extend(region(r as u8, mark, flow, interval.factors[r], &prices));
+        }
+        unless(bytes.len() <= buffer.len(), 23)?;
+        buffer[..bytes.len()].copy_from_slice(&bytes);
+        Ok(bytes.len())
+    }
+}
+
+/// The four slices from the regions' bodies, upward and behind the region's number.
+fn in_order<'a>(bodies: impl Iterator<Item = Front<'a>>, markets: usize) -> Interval {
+    let mut interval = Interval {
+        number: 0,
+        kind: 0,
+        prices: Vec::new(),
+        marks: Vec::new(),
+        flows: Vec::new(),
+        factors: Vec::new(),
+    };
+    for mut body in bodies {
+        interval.marks.push(body.byte());
+        interval.flows.push(i32::from_le_bytes(body.field()));
+        interval.factors.push(u32::from_le_bytes(body.field()));
+        for _ in 0..markets {
+            interval.prices.push(i32::from_le_bytes(body.field()));
+        }
+    }
+    interval
+}
