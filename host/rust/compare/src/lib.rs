@@ -2,6 +2,7 @@
 
 pub mod books;
 pub mod cutting;
+pub mod intervals;
 pub mod lent;
 pub mod playing;
 pub mod replay;

@@ -3,11 +3,13 @@
 
 use compare::playing::{Playing, Start};
 use compare::typed::{paper, Pair};
-use compare::{books, rounds, say};
+use compare::{books, intervals, rounds, say};
+use generator::intervals::{Reading, Writing};
 use generator::{calls, images, Random};
 use guxhamole::{raw, Book};
 use independent::book::FAULTS;
 use independent::image::Fields;
+use independent::interval::Interval;
 use independent::ledger::Entry;
 use independent::Call;
 use std::collections::BTreeMap;
@@ -62,6 +64,32 @@ impl Met {
         ] {
             self.call(&mut pair, &call);
         }
+        self.interval(book);
+    }
+
+    /// An interval written and read by a book of any fields, which both say 10 exactly where rule 10 does.
+    fn interval(&mut self, book: &raw::Book) {
+        let book = paper(book);
+        let writing = Writing {
+            book: book.clone(),
+            interval: interval(&book),
+            buffer: guxhamole::MOST_INTERVAL,
+        };
+        let written = intervals::write(&writing);
+        let reading = Reading {
+            book,
+            records: written.clone().unwrap_or_default(),
+            at: 0,
+            lent: writing.interval,
+        };
+        let read = intervals::read(&reading);
+        for refusal in [written.err(), read.err()] {
+            let number = refusal.map_or(0, |refusal| refusal.number);
+            let fault = reading.book.fault();
+            assert_eq!(number, if fault.is_some() { 10 } else { 0 }, "{fault:?}");
+            self.calls += 1;
+            *self.answers.entry(number).or_default() += 1;
+        }
     }
 
     fn say(&self, name: &str) {
@@ -88,6 +116,20 @@ fn entry(book: &raw::Book, ring: usize) -> Call {
         schedule: vec![0; prices * 2 * usize::from(book.halves.min(49))],
     };
     Call::Entry(entry, ring, vec![7; prices])
+}
+
+/// An interval of the lengths that a book's fields ask for, if these are small.
+fn interval(book: &independent::book::Book) -> Interval {
+    let regions = usize::from(book.regions.min(9));
+    let prices = regions * (usize::from(book.services.min(11)) + 1);
+    Interval {
+        number: book.entries,
+        kind: 0,
+        prices: (0..prices).map(|place| 100 * place as i32).collect(),
+        marks: vec![0; regions],
+        flows: vec![1; regions],
+        factors: vec![11_000; regions],
+    }
 }
 
 /// The ring, or zeros where the book's fields ask for another length that a book can have.

@@ -1,8 +1,9 @@
-//! Seeded, bounded lists of calls, their records, images and index arguments for the differential test.
+//! Seeded, bounded lists of calls, their records, images, interval records and index arguments for the differential test.
 
 pub mod calls;
 pub mod images;
 pub mod indexes;
+pub mod intervals;
 pub mod lists;
 pub mod random;
 pub mod weeks;
