@@ -1,9 +1,10 @@
-//! A fuzz target: any bytes are an image to check, a list of calls to replay, or a book with its ring and calls on it, and
-//! what the compiled functions do with them is held to `independent`. Every lent slice ends at a page that nobody may touch,
-//! or begins after one, so that a read past it is noticed too.
+//! A fuzz target: any bytes are an image to check, a list of calls to replay, a book with its ring and calls on it, or interval
+//! records, and what the compiled functions do with them is held to `independent`. Every lent slice ends at a page that nobody
+//! may touch, or begins after one, so that a read past it is noticed too.
 
 mod bytes;
 mod images;
+mod intervals;
 mod pages;
 mod replays;
 mod typed;
@@ -26,10 +27,11 @@ pub fn run(data: &[u8]) -> Met {
     let Some((which, rest)) = data.split_first() else {
         return Met::new();
     };
-    ROOM.with_borrow_mut(|room| match which % 3 {
+    ROOM.with_borrow_mut(|room| match which % 4 {
         0 => images::run(room, rest),
         1 => replays::run(room, rest),
-        _ => typed::run(room, rest),
+        2 => typed::run(room, rest),
+        _ => intervals::run(room, rest),
     })
 }
 

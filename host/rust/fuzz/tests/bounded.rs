@@ -2,14 +2,14 @@
 //! another number. A difference prints the shortest input found by cutting.
 
 use compare::{cutting, say};
-use generator::{calls, images, lists, Random};
+use generator::{calls, images, intervals, lists, Random};
 use guxhamole::Book;
 use independent::image::Fields;
 use std::collections::BTreeMap;
 use std::panic::catch_unwind;
 
 /// Inputs of a gate's run.
-const RUNS: u64 = 120_000;
+const RUNS: u64 = 150_000;
 
 fn runs() -> u64 {
     match std::env::var("GUXHAMOLE_FUZZ") {
@@ -27,17 +27,31 @@ fn image(random: &mut Random) -> Vec<u8> {
     }
 }
 
-/// An input that is not yet mutated, for each of the three targets.
+/// An input that is not yet mutated, for each of the four targets.
 fn seed(random: &mut Random) -> Vec<u8> {
-    match random.below(4) {
+    match random.below(5) {
         0 => [vec![0], image(random)].concat(),
         1 => {
             let length = random.below(12);
             let list = lists::list(random, length);
             [vec![1; 9], records::bytes(&list.records)].concat()
         }
+        2 => interval(random),
         _ => typed(random),
     }
+}
+
+/// A book's size, a place, and records: mostly an interval of that book at that place.
+fn interval(random: &mut Random) -> Vec<u8> {
+    let book = intervals::book(random);
+    let reading = intervals::reading(random, &book);
+    let mut input = vec![3, random.below(2) as u8, book.regions - 1, book.services];
+    input.extend([0; 3]);
+    input.push(3);
+    input.extend((reading.at as u64).to_le_bytes());
+    input.extend([0; 10]);
+    input.extend(reading.records);
+    input
 }
 
 /// A book of bytes, an opening or an image, then calls of random bytes; mostly zeros, which make valid ones.
@@ -174,7 +188,17 @@ fn bounded() {
             ("limits", 19),
         ];
         let others = [("report", 0), ("schedule", 0), ("text and index", 0)];
-        let all = [&starts[..], &entries, &restarts, &settings, &others];
+        let reads = [0, 10, 11, 40, 41, 42].map(|number| ("read", number));
+        let writes = [0, 10, 11, 23].map(|number| ("write", number));
+        let intervals = [&reads[..], &writes].concat();
+        let all = [
+            &starts[..],
+            &entries,
+            &restarts,
+            &settings,
+            &others,
+            &intervals,
+        ];
         for answer in all.concat() {
             let times = met.get(&answer).copied().unwrap_or(0);
             assert!(times >= 50, "{answer:?} met {times} times");

@@ -1,0 +1,128 @@
+//! Bytes as interval records, read at any place by a book of any size, sound or damaged; then what the slices hold is written.
+
+use crate::bytes::Bytes;
+use crate::pages::Pages;
+use crate::Met;
+use compare::typed::{paper, told};
+use guxhamole::{Book, IntervalMut, Settings, BOOK_LENGTH};
+use independent::interval::Interval;
+
+/// A book just opened, with one of its bytes changed; zeros change none.
+fn book(bytes: &mut Bytes) -> Book {
+    let settings = Settings {
+        regions: 1 + bytes.byte() % 8,
+        services: bytes.byte() % 11,
+        window: 1,
+        halves: 1,
+        parents: [255; 8],
+        ..Settings::default()
+    };
+    let (regions, services) = (settings.regions.into(), settings.services.into());
+    let mut ring = vec![0; guxhamole::ring_length(regions, services, 1)];
+    let book = Book::open(settings, &mut ring).expect("a valid opening");
+    let mut fields = book.to_bytes();
+    fields[usize::from(bytes.u16()) % BOOK_LENGTH] ^= bytes.byte();
+    Book::from_bytes(&fields)
+}
+
+/// The start, a place near it, or any.
+fn place(bytes: &mut Bytes) -> usize {
+    match bytes.byte() % 4 {
+        0 | 1 => 0,
+        2 => bytes.u16().into(),
+        _ => bytes.u64() as usize,
+    }
+}
+
+/// Slices as they are lent, of about the lengths that the book asks for.
+fn lent(bytes: &mut Bytes, book: &Book) -> Interval {
+    let regions = book.regions().into();
+    Interval {
+        number: bytes.u32(),
+        kind: bytes.byte(),
+        prices: vec![-1; bytes.length(book.prices_length())],
+        marks: vec![2; bytes.length(regions)],
+        flows: vec![-3; bytes.length(regions)],
+        factors: vec![4; bytes.length(regions)],
+    }
+}
+
+pub fn run(room: &mut [Pages], data: &[u8]) -> Met {
+    let mut bytes = Bytes::new(data);
+    let at_end = bytes.byte().is_multiple_of(2);
+    let book = book(&mut bytes);
+    let (at, mut interval) = (place(&mut bytes), lent(&mut bytes, &book));
+    let buffer = bytes.length(book.interval_length());
+    let records = bytes.part(Pages::most::<u8>());
+    let read = read(room, at_end, &book, records, at, &mut interval);
+    let written = write(room, at_end, &book, &interval, buffer);
+    vec![("read", read), ("write", written)]
+}
+
+/// The number that both readers answer; what they read takes the place of what is lent.
+fn read(
+    room: &mut [Pages],
+    at_end: bool,
+    book: &Book,
+    records: &[u8],
+    at: usize,
+    interval: &mut Interval,
+) -> u32 {
+    let [one, two, three, four, five, ..] = room else {
+        unreachable!("five slices at least")
+    };
+    let bytes = one.hold(records, at_end);
+    let prices = two.hold(&interval.prices, at_end);
+    let marks = three.hold(&interval.marks, at_end);
+    let flows = four.hold(&interval.flows, at_end);
+    let factors = five.hold(&interval.factors, at_end);
+    let slices = IntervalMut {
+        prices: &mut *prices.lent,
+        marks: &mut *marks.lent,
+        flows: &mut *flows.lent,
+        factors: &mut *factors.lent,
+    };
+    let found = told(book.read_interval(bytes.lent, at, slices));
+    let found = found.map(|found| (found.next, found.number, found.day_kind));
+    let expected = paper(book.raw()).read_interval(records, at, interval);
+    let expected = expected.map(|next| (next, interval.number, interval.kind));
+    assert_eq!(found, expected, "reading");
+    assert!(bytes.holds(records), "records");
+    let filled = prices.holds(&interval.prices)
+        && marks.holds(&interval.marks)
+        && flows.holds(&interval.flows)
+        && factors.holds(&interval.factors);
+    assert!(filled, "slices after the reading");
+    expected.err().map_or(0, |refusal| refusal.number)
+}
+
+/// The number that both writers answer.
+fn write(room: &mut [Pages], at_end: bool, book: &Book, interval: &Interval, buffer: usize) -> u32 {
+    let [one, two, three, four, five, ..] = room else {
+        unreachable!("five slices at least")
+    };
+    let lent = one.lend::<u8>(buffer, at_end);
+    let prices = two.hold(&interval.prices, at_end);
+    let marks = three.hold(&interval.marks, at_end);
+    let flows = four.hold(&interval.flows, at_end);
+    let factors = five.hold(&interval.factors, at_end);
+    let mut expected_buffer = lent.lent.to_vec();
+    let writing = guxhamole::Interval {
+        number: interval.number,
+        day_kind: interval.kind,
+        prices: prices.lent,
+        marks: marks.lent,
+        flows: flows.lent,
+        factors: factors.lent,
+    };
+    let written = told(book.write_interval(writing, lent.lent));
+    let expected = paper(book.raw()).write_interval(interval, &mut expected_buffer);
+    assert_eq!(written, expected, "writing");
+    assert!(lent.holds(&expected_buffer), "buffer");
+    let kept = prices.holds(&interval.prices)
+        && marks.holds(&interval.marks)
+        && flows.holds(&interval.flows)
+        && factors.holds(&interval.factors);
+    assert!(kept, "what the writing lends");
+    expected.err().map_or(0, |refusal| refusal.number)
+}
