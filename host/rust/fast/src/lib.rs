@@ -1,5 +1,6 @@
 //! Document 01's book by hand, for speed: the baseline that the proved functions are measured against. Running sums,
-//! lent slices, no allocation; rule 10 and every other refusal at every call, as there. Quotations are document 01's.
+//! lent slices, no allocation; rule 10 and every other refusal at every call, as there. Document 02's interval records beside
+//! it. Quotations are document 01's unless a file says otherwise.
 
 #![no_std]
 #![forbid(unsafe_code)]
@@ -8,6 +9,7 @@ pub mod book;
 mod bytes;
 pub mod entry;
 pub mod image;
+pub mod interval;
 mod publishing;
 mod replay;
 

@@ -1,5 +1,6 @@
 //! Rule 10, the store's 22 and what a ring holds: no list of calls shows them, so that books and rings are spoilt by hand.
 
+use fast::interval::{Interval, IntervalMut};
 use fast::{Book, Entry, Opening};
 
 const OPENING: Opening = Opening {
@@ -53,6 +54,22 @@ fn all_refuse(spoil: impl Fn(&mut Book)) {
     assert_eq!(book.set_limits(1, -1), Err(refused));
     assert_eq!(book.report(0, 0), Err(refused));
     assert_eq!(book.store(&ring, &mut [0; 300]), Err(refused));
+    let interval = Interval {
+        number: 2,
+        kind: 0,
+        prices: &[100, 200, 300, 400],
+        marks: &[0, 0],
+        flows: &[0, 0],
+        factors: &[0, 10_000],
+    };
+    assert_eq!(book.write_interval(&interval, &mut [0; 300]), Err(refused));
+    let slices = IntervalMut {
+        prices: &mut [0; 4],
+        marks: &mut [0; 2],
+        flows: &mut [0; 2],
+        factors: &mut [0; 2],
+    };
+    assert_eq!(book.read_interval(&[], 0, slices), Err(refused));
     assert_eq!((book, ring), before);
 }
 

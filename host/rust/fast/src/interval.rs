@@ -1,0 +1,187 @@
+//! Interval records, request 2026-01 of document 02: a reader and a writer. Quotations are document 02's.
+
+use crate::book::{unless, Book, Refusal, REGIONS};
+use crate::bytes::{decode, eight_at, encode, i32_at, put, u16_at, u32_at};
+
+/// Lengths and kinds of a head and of a region's record before its prices.
+const HEAD: usize = 12;
+const HEAD_KIND: u64 = 16;
+const REGION: usize = 16;
+const REGION_KIND: u64 = 17;
+
+/// What a writer is lent, but for its buffer.
+#[derive(Clone, Copy, Debug)]
+pub struct Interval<'a> {
+    pub number: u32,
+    pub kind: u8,
+    pub prices: &'a [i32],
+    pub marks: &'a [u8],
+    pub flows: &'a [i32],
+    pub factors: &'a [u32],
+}
+
+/// What a reader fills.
+#[derive(Debug)]
+pub struct IntervalMut<'a> {
+    pub prices: &'a mut [i32],
+    pub marks: &'a mut [u8],
+    pub flows: &'a mut [i32],
+    pub factors: &'a mut [u32],
+}
+
+/// The place after an interval, its number and its day kind.
+#[derive(Clone, Copy, Debug, PartialEq, Eq)]
+pub struct Found {
+    pub next: usize,
+    pub number: u32,
+    pub kind: u8,
+}
+
+/// Length and kind, a record's first six bytes, as one number; two zero bytes above them.
+#[inline]
+fn start(length: usize, kind: u64) -> u64 {
+    kind << 32 | length as u64
+}
+
+/// The bits of length and kind.
+const START: u64 = (1 << 48) - 1;
+
+/// "40: a record missing or cut short, a length below 6 or, for a known kind, another than it has"; 41 for another kind than
+/// the one that is due. Answers the record's length.
+fn check(bytes: &[u8], due: u16, markets: usize) -> Result<usize, Refusal> {
+    unless(bytes.len() >= 6, 40)?;
+    let (length, kind) = (u32_at(bytes, 0) as usize, u16_at(bytes, 4));
+    let known = match u64::from(kind) {
+        HEAD_KIND => length == HEAD,
+        REGION_KIND => length == REGION + 4 * markets,
+        _ => true,
+    };
+    unless((6..=bytes.len()).contains(&length) && known, 40)?;
+    unless(kind == due, 41)?;
+    Ok(length)
+}
+
+impl Book {
+    /// "a call reads one and answers the place after it": 10, 11, then "per record 40, 41, 42". An interval is tested as a
+    /// whole, and gone through record by record only to find its refusal.
+    pub fn read_interval(
+        &self,
+        records: &[u8],
+        at: usize,
+        interval: IntervalMut,
+    ) -> Result<Found, Refusal> {
+        unless(self.valid(), 10)?;
+        let lent = [
+            interval.marks.len(),
+            interval.flows.len(),
+            interval.factors.len(),
+        ];
+        unless(self.slices_right(interval.prices.len(), lent), 11)?;
+        let (length, size) = (self.interval_length(), self.region_length());
+        let bytes = records.get(at..).unwrap_or_default();
+        let whole = bytes.get(..length).unwrap_or_default();
+        let Some(places) = self.places(whole) else {
+            return Err(self.refusal_of(bytes));
+        };
+        let (head, rest) = whole.split_at(HEAD);
+        let rows = interval.prices.chunks_exact_mut(self.markets());
+        for (region, row) in rows.enumerate() {
+            let record = &rest[usize::from(places[region]) * size..][..size];
+            interval.marks[region] = record[7];
+            interval.flows[region] = i32_at(record, 8);
+            interval.factors[region] = u32_at(record, 12);
+            decode(&record[REGION..], row);
+        }
+        Ok(Found {
+            next: at + length,
+            number: u32_at(head, 6),
+            kind: head[10],
+        })
+    }
+
+    /// Which record is each region's, where every record is as it must be: R regions below R are all different where all of
+    /// them are met.
+    #[inline]
+    fn places(&self, interval: &[u8]) -> Option<[u8; REGIONS]> {
+        let (head, rest) = interval.split_at_checked(HEAD)?;
+        let head_start = u64::from_le_bytes(eight_at(head, 0)) & START;
+        let mut right = head_start == start(HEAD, HEAD_KIND) && head[11] == self.regions;
+        let size = self.region_length();
+        let expected = start(size, REGION_KIND);
+        let (mut places, mut met) = ([0; REGIONS], 0u32);
+        for (turn, record) in rest.chunks_exact(size).enumerate() {
+            let found = u64::from_le_bytes(eight_at(record, 0));
+            let region = record[6];
+            right &= found & START == expected && region < self.regions;
+            places[usize::from(region) % REGIONS] = turn as u8;
+            met |= 1 << (region % 32);
+        }
+        (right && met + 1 == 1 << self.regions).then_some(places)
+    }
+
+    /// The first refusal of records that are refused.
+    #[cold]
+    fn refusal_of(&self, bytes: &[u8]) -> Refusal {
+        let refused = |number: u32| Refusal { number, place: 0 };
+        let mut rest = bytes;
+        let mut met = 0u32;
+        for turn in 0..=u32::from(self.regions) {
+            let due = if turn == 0 { HEAD_KIND } else { REGION_KIND };
+            let length = match check(rest, due as u16, self.markets()) {
+                Ok(length) => length,
+                Err(refusal) => return refusal,
+            };
+            if turn == 0 && rest[11] != self.regions {
+                return refused(41);
+            }
+            if turn > 0 && (rest[6] >= self.regions || met >> rest[6] & 1 == 1) {
+                return refused(42);
+            }
+            met |= u32::from(turn > 0) << (rest[6] % 32);
+            rest = &rest[length..];
+        }
+        unreachable!("such an interval is accepted")
+    }
+
+    /// "our writer goes upward, from the buffer's start": 10, 11, 23. Answers the interval's length.
+    pub fn write_interval(&self, interval: &Interval, buffer: &mut [u8]) -> Result<usize, Refusal> {
+        unless(self.valid(), 10)?;
+        let lent = [
+            interval.marks.len(),
+            interval.flows.len(),
+            interval.factors.len(),
+        ];
+        unless(self.slices_right(interval.prices.len(), lent), 11)?;
+        let (length, size) = (self.interval_length(), self.region_length());
+        unless(length <= buffer.len(), 23)?;
+        let (head, rest) = buffer[..length].split_at_mut(HEAD);
+        put(head, 0, &start(HEAD, HEAD_KIND).to_le_bytes());
+        put(head, 6, &interval.number.to_le_bytes());
+        put(head, 10, &[interval.kind, self.regions]);
+        let rows = interval.prices.chunks_exact(self.markets());
+        for (region, (record, row)) in rest.chunks_exact_mut(size).zip(rows).enumerate() {
+            put(record, 0, &start(size, REGION_KIND).to_le_bytes());
+            put(record, 6, &[region as u8, interval.marks[region]]);
+            put(record, 8, &interval.flows[region].to_le_bytes());
+            put(record, 12, &interval.factors[region].to_le_bytes());
+            encode(row, &mut record[REGION..]);
+        }
+        Ok(length)
+    }
+
+    #[inline]
+    fn region_length(&self) -> usize {
+        REGION + 4 * self.markets()
+    }
+
+    #[inline]
+    fn interval_length(&self) -> usize {
+        HEAD + usize::from(self.regions) * self.region_length()
+    }
+
+    /// 11: the prices' length, and those of marks, flows and factors.
+    #[inline]
+    fn slices_right(&self, prices: usize, others: [usize; 3]) -> bool {
+        prices == self.prices() && others == [usize::from(self.regions); 3]
+    }
+}
