@@ -1,7 +1,8 @@
 //! Calls to be counted by instructions rather than timed: `bench count proved|fast` and, where it is not the real market's free
-//! entry, the words `small`, `administered`, `report`, `store` or `load`. Under callgrind's `--toggle-collect='*count::counted*'` the
-//! calls themselves are counted, on a book whose window is full.
+//! entry, the words `small`, `administered`, `report`, `store`, `load`, or `read`, `shuffled` and `write` of interval records. Under
+//! callgrind's `--toggle-collect='*count::counted*'` the calls themselves are counted, on a book whose window is full.
 
+use crate::intervals::{self, Day, Recorded, Room};
 use crate::lists::{Market, Trade, Trading};
 use crate::typed::{Host, Typed, CALLS};
 
@@ -18,21 +19,23 @@ struct Counting {
 }
 
 /// Makes the calls that the words after `count` say; nothing where they are no such words.
-pub fn run(real: &Market, small: &Market, words: &[String]) -> Option<()> {
+pub fn run(real: &Market, small: &Market, words: &[&str]) -> Option<()> {
     let (player, words) = words.split_first()?;
     let mut counting = Counting {
         market: *real,
         trade: Trade::Free,
         call: CALLS[0],
     };
-    for word in words {
-        match word.as_str() {
+    for &word in words {
+        let records = intervals::CALLS.map(|(name, _)| name);
+        let mut known = CALLS.into_iter().chain(records);
+        match word {
             "small" => counting.market = *small,
             "administered" => counting.trade = Trade::Administered,
-            call => counting.call = CALLS.iter().find(|&&known| known == call)?,
+            call => counting.call = known.find(|&known| known == call)?,
         }
     }
-    match player.as_str() {
+    match *player {
         "proved" => counting.play::<guxhamole::Book>(),
         "fast" => counting.play::<fast::Book>(),
         _ => return None,
@@ -47,7 +50,12 @@ pub fn run(real: &Market, small: &Market, words: &[String]) -> Option<()> {
 }
 
 impl Counting {
-    fn play<B: Typed>(&self) {
+    fn play<B: Typed + Recorded>(&self) {
+        let mut records = intervals::CALLS.into_iter();
+        if let Some((_, call)) = records.find(|(name, _)| *name == self.call) {
+            let day = Day::new(self.market.regions, self.market.services);
+            return counted_records(&B::opened(&day), &day, &mut day.room(), call);
+        }
         let full = usize::from(self.market.window);
         let trading = Trading::new(&self.market, self.trade, full, full + TIMES);
         let mut host: Host<B> = Host::new(&self.market, &trading);
@@ -67,6 +75,13 @@ fn counted<B: Typed>(host: &mut Host<B>, trading: &Trading, call: &str, image: u
         _ => {
             black_box(host.enter(trading, full..full + TIMES));
         }
+    }
+}
+
+#[inline(never)]
+fn counted_records<B: Recorded>(book: &B, day: &Day, room: &mut Room, call: intervals::Call) {
+    for turn in 0..TIMES {
+        black_box(room.call(book, day, call, turn));
     }
 }
 

@@ -1,9 +1,11 @@
-//! Measures the proved functions beside the hand-written ones: the typed calls over the same slices, then the replay on the same
-//! bytes, entries, restarts, and whether an entry's cost grows with the window or with the history. The one argument is the
-//! number of rounds; or `count ..` plays entries to be counted by instructions. docs/PERFORMANCE.md says how to read the tables.
+//! Measures the proved functions beside the hand-written ones: the typed calls over the same slices, interval records, then the
+//! replay on the same bytes, entries, restarts, and whether an entry's cost grows with the window or with the history. The one
+//! argument is the number of rounds; `intervals` leaves all but the interval records out, and `count ..` makes calls to be counted
+//! by instructions. docs/PERFORMANCE.md says how to read the tables.
 
 mod clock;
 mod count;
+mod intervals;
 mod lists;
 mod tables;
 mod timing;
@@ -33,27 +35,44 @@ const REAL_ENTRIES: usize = 1_000;
 const SMALL_ENTRIES: usize = 40_000;
 const RESTARTS: usize = 40;
 
+/// The books whose interval records are read and written: the real one, the smallest and the largest.
+const RECORDED: [(u8, u8); 3] = [(5, 10), (1, 0), (8, 10)];
+
+/// Rounds, where none are said.
+const ROUNDS: usize = 21;
+
 fn main() {
-    let mut words: Vec<String> = std::env::args().skip(1).collect();
-    if words.is_empty() {
-        words.push("21".to_string());
-    }
-    let done = match words.split_first() {
-        Some((word, rest)) if word == "count" => count::run(&REAL, &SMALL, rest),
-        Some((rounds, [])) => rounds.parse().ok().map(all_tables),
+    let words: Vec<String> = std::env::args().skip(1).collect();
+    let words: Vec<&str> = words.iter().map(String::as_str).collect();
+    let done = match words[..] {
+        ["count", ref rest @ ..] => count::run(&REAL, &SMALL, rest),
+        ["intervals"] => some_rounds("", interval_records),
+        ["intervals", rounds] => some_rounds(rounds, interval_records),
+        [] => some_rounds("", all_tables),
+        [rounds] => some_rounds(rounds, all_tables),
         _ => None,
     };
     if done.is_none() {
-        eprintln!("bench [ROUNDS]");
-        eprintln!("bench count proved|fast [small] [administered] [report|store|load]");
+        eprintln!("bench [intervals] [ROUNDS]");
+        eprintln!("bench count proved|fast [small] [administered] [report|store|load|read|shuffled|write]");
         std::process::exit(2);
     }
 }
 
-fn all_tables(rounds: usize) {
-    let rounds = std::cmp::max(rounds, 1);
+/// Makes tables of so many rounds; nothing where the word is no number.
+fn some_rounds(rounds: &str, tables: fn(usize)) -> Option<()> {
+    let rounds = match rounds {
+        "" => ROUNDS,
+        _ => std::cmp::max(rounds.parse().ok()?, 1),
+    };
     println!("nanoseconds of processor time: median of {rounds} rounds (least, or difference of least times)");
+    tables(rounds);
+    Some(())
+}
+
+fn all_tables(rounds: usize) {
     typed_calls(rounds);
+    interval_records(rounds);
     steady(rounds);
     history(rounds);
     restarts(rounds);
@@ -76,6 +95,31 @@ fn typed_calls(rounds: usize) {
         for (name, costs) in &rows {
             tables::row(name, &costs[place]);
         }
+    }
+}
+
+/// Reading and writing of an interval's records, by time and by bytes a second.
+fn interval_records(rounds: usize) {
+    let mut rows = Vec::new();
+    for (regions, services) in RECORDED {
+        let day = intervals::Day::new(regions, services);
+        let costs = day.measure(rounds);
+        for ((name, call), costs) in intervals::CALLS.into_iter().zip(costs) {
+            let bytes = day.bytes();
+            let name = format!("R {regions}, S {services}, {bytes} bytes: {name}");
+            // One region has one order.
+            if call != intervals::Call::Shuffled || regions > 1 {
+                rows.push((name, bytes, costs));
+            }
+        }
+    }
+    tables::head("interval records");
+    for (name, _, costs) in &rows {
+        tables::row(name, costs);
+    }
+    tables::rate_head("interval records, millions of bytes a second");
+    for (name, bytes, costs) in &rows {
+        tables::rate_row(name, *bytes, costs);
     }
 }
 

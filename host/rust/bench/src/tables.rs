@@ -41,3 +41,16 @@ pub fn row(name: &str, costs: &Costs) {
     let (proved, fast) = (both(&costs.proved), both(&costs.fast));
     println!("{name:<52}{proved:>22}{fast:>22}{ratios:>14}");
 }
+
+/// The head of rows of millions of bytes a second.
+pub fn rate_head(name: &str) {
+    println!("\n{name:<52}{:>22}{:>22}", "proved", "fast");
+}
+
+/// Millions of bytes a second, where a call is about so many bytes. The least times are the highest rates.
+pub fn rate_row(name: &str, bytes: usize, costs: &Costs) {
+    let rate = |cost: f64| grouped((1_000.0 * bytes as f64 / cost).round() as usize);
+    let both = |cost: &Cost| format!("{} ({})", rate(cost.median), rate(cost.least));
+    let (proved, fast) = (both(&costs.proved), both(&costs.fast));
+    println!("{name:<52}{proved:>22}{fast:>22}");
+}

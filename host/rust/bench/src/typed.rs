@@ -179,7 +179,7 @@ impl<B: Typed> Host<B> {
 }
 
 /// Nanoseconds of one call, where it is made so many times.
-fn timed<A>(calls: usize, mut call: impl FnMut() -> A) -> f64 {
+pub fn timed<A>(calls: usize, mut call: impl FnMut() -> A) -> f64 {
     let start = clock::now();
     for _ in 0..calls {
         black_box(call());
@@ -204,18 +204,21 @@ pub fn measure(market: &Market, trade: Trade, entries: usize, rounds: usize) -> 
             });
         }
     }
-    let cost = |player: usize, call: usize| {
-        let mut times: Vec<f64> = times[player].iter().map(|round| round[call]).collect();
-        times.sort_by(f64::total_cmp);
-        Cost {
-            median: times[times.len() / 2],
-            least: times[0],
-        }
-    };
+    let cost = |player: usize, call: usize| cost(times[player].iter().map(|round| round[call]));
     std::array::from_fn(|call| Costs {
         proved: cost(0, call),
         fast: cost(1, call),
     })
+}
+
+/// The median and the least of the rounds' times.
+pub fn cost(times: impl Iterator<Item = f64>) -> Cost {
+    let mut times: Vec<f64> = times.collect();
+    times.sort_by(f64::total_cmp);
+    Cost {
+        median: times[times.len() / 2],
+        least: times[0],
+    }
 }
 
 /// Both books after the first entries, once every answer of theirs was the same to the last entry: counts, tables, reports,
