@@ -167,7 +167,9 @@ pub fn read(reading: &Reading) -> Result<Read, Refusal> {
         let differs = |records: &[u8]| try_read(&cut(records)).is_err();
         let short = cut(&cutting::shortest(&reading.records, differs));
         let what = try_read(&short).err().unwrap_or(what);
-        panic!("reading, a difference in {what}\n{short:?}")
+        let (at, records, lent) = (short.at, &short.records, &short.lent);
+        let book = &short.book;
+        panic!("reading at {at} differs in {what}\nrecords {records:02x?}\n{lent:?}\n{book:?}")
     })
 }
 

@@ -1,10 +1,11 @@
 //! Interval records (request 2026-01 of document 02): the compiled reader and writer against the independent ones, call by
 //! call, and the two round trips.
 
-use compare::intervals::{read, write, Read};
+use compare::intervals::{compiled, read, write, Read};
 use compare::{books, rounds, say};
 use generator::intervals::{self, Reading, Writing};
 use generator::Random;
+use guxhamole::IntervalMut;
 use independent::book::Book;
 use independent::interval::Interval;
 use independent::{Opening, Refusal};
@@ -204,6 +205,43 @@ fn every_cut_and_place() {
         }
     }
     met.say("every cut and place");
+}
+
+/// Reads from the middle of other memory, into slices of the book's lengths: the refusal's number, or 0.
+fn read_within(book: &Book, records: &[u8], at: usize) -> u32 {
+    let regions = book.regions.into();
+    let slices = IntervalMut {
+        prices: &mut vec![0; regions * (usize::from(book.services) + 1)],
+        marks: &mut vec![0; regions],
+        flows: &mut vec![0; regions],
+        factors: &mut vec![0; regions],
+    };
+    let found = guxhamole::Book::from_raw(compiled(book)).read_interval(records, at, slices);
+    found.err().map_or(0, |refusal| refusal.number())
+}
+
+/// Whole intervals stand before and behind what is lent: a reading that left it, at either end, would accept them.
+#[test]
+fn nothing_beside_is_read() {
+    let mut random = Random::new(0x44_0000);
+    for (regions, services) in SIZES {
+        let book = sized(regions, services);
+        let length = intervals::length(&book);
+        let memory = two(&mut random, &book, true).records.repeat(2);
+        let lent = &memory[length..3 * length];
+        for back in 1..=length {
+            let at = 0usize.wrapping_sub(back);
+            assert_eq!(read_within(&book, lent, at), 40, "{back} before");
+        }
+        for cut in 0..length {
+            assert_eq!(read_within(&book, &lent[..cut], 0), 40, "cut at {cut}");
+        }
+        for at in [0, length] {
+            assert_eq!(read_within(&book, lent, at), 0);
+            let after = lent.len() + at;
+            assert_eq!(read_within(&book, lent, after), 40, "place {after}");
+        }
+    }
 }
 
 /// Every value of every byte of small intervals; the one behind stays whole.
