@@ -175,5 +175,12 @@ pub fn read(reading: &Reading) -> Result<Read, Refusal> {
 
 /// One writing; a difference prints it.
 pub fn write(writing: &Writing) -> Result<Vec<u8>, Refusal> {
-    try_write(writing).unwrap_or_else(|what| panic!("writing, a difference in {what}\n{writing:?}"))
+    try_write(writing).unwrap_or_else(|what| {
+        let Writing {
+            book,
+            interval,
+            buffer,
+        } = writing;
+        panic!("writing into {buffer} bytes differs in {what}\n{interval:?}\n{book:?}")
+    })
 }

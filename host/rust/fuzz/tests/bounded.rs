@@ -178,30 +178,31 @@ fn bounded() {
     }
     say(&format!("fuzz: {} runs, met {met:?}", runs()));
     if runs() >= RUNS {
-        let starts = [("check", 0), ("load", 0), ("opening", 0), ("replay", 1)];
-        let entries = [0, 10, 11, 12, 13, 14, 15, 16, 17].map(|number| ("entry", number));
-        let restarts = [0, 10, 11, 22, 23].map(|number| ("restart", number));
-        let settings = [
-            ("threshold", 0),
-            ("threshold", 18),
-            ("limits", 0),
-            ("limits", 19),
-        ];
-        let others = [("report", 0), ("schedule", 0), ("text and index", 0)];
-        let reads = [0, 10, 11, 40, 41, 42].map(|number| ("read", number));
-        let writes = [0, 10, 11, 23].map(|number| ("write", number));
-        let intervals = [&reads[..], &writes].concat();
-        let all = [
-            &starts[..],
-            &entries,
-            &restarts,
-            &settings,
-            &others,
-            &intervals,
-        ];
-        for answer in all.concat() {
-            let times = met.get(&answer).copied().unwrap_or(0);
-            assert!(times >= 50, "{answer:?} met {times} times");
+        all_met(&met);
+    }
+}
+
+/// The answers that a run over all inputs must have met.
+fn all_met(met: &BTreeMap<(&'static str, u32), u64>) {
+    let expected: [(&str, &[u32]); 13] = [
+        ("check", &[0]),
+        ("load", &[0]),
+        ("opening", &[0]),
+        ("replay", &[1]),
+        ("entry", &[0, 10, 11, 12, 13, 14, 15, 16, 17]),
+        ("restart", &[0, 10, 11, 22, 23]),
+        ("threshold", &[0, 18]),
+        ("limits", &[0, 19]),
+        ("report", &[0]),
+        ("schedule", &[0]),
+        ("text and index", &[0]),
+        ("read", &[0, 10, 11, 40, 41, 42]),
+        ("write", &[0, 10, 11, 23]),
+    ];
+    for (name, numbers) in expected {
+        for &number in numbers {
+            let times = met.get(&(name, number)).copied().unwrap_or(0);
+            assert!(times >= 50, "{name}, {number}: met {times} times");
         }
     }
 }
