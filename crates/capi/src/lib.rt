@@ -1,5 +1,5 @@
-// What a C host calls: the book that it keeps between calls, the schedule maker, the amount text, the index, the image check and the
-// replay, over plain numbers and the host's own memory. Each function is one call of the proved operation.
+// What a C host calls: the book that it keeps between calls, interval records, the schedule maker, the amount text, the index, the image
+// check and the replay, over plain numbers and the host's own memory. Each function is one call of the proved operation.
 use amount::write_amount;
 use book::opening::open;
 use book::record::Book;
@@ -8,11 +8,14 @@ use book::report::report;
 use book::setting::set_limits;
 use book::setting::set_threshold;
 use entries::enter;
+use face::Found;
 use face::Kept;
 use face::Rows;
 use face::Seen;
 use face::Taken;
 use face::Written;
+use face::found_of;
+use face::interval_of;
 use face::kept_of;
 use face::rows_of;
 use face::seen_of;
@@ -21,6 +24,8 @@ use face::written_of;
 use image::loading::check;
 use image::loading::load;
 use image::storing::store;
+use interval_writer::writing::write_interval;
+use intervals::reading::read_interval;
 use pricing::indexing::Answer;
 use pricing::indexing::Quarters;
 use pricing::indexing::indexed;
@@ -39,7 +44,10 @@ ghost use Rattle.publishing.specs.Entry.{entryOf};
 ghost use Rattle.entries.specs.Entering.{entered};
 ghost use Rattle.image.specs.Storing.{stored};
 ghost use Rattle.image.specs.Loading.{checked, loaded};
-ghost use Rattle.face.specs.Face.{openedOf, changedOf, takenOf, numbersOf, storedOf, loadedOf, rowsOf, energyOf};
+ghost use Rattle.interval_records.specs.Layout.{intervalOf};
+ghost use Rattle.intervals.specs.Reading.{readInterval};
+ghost use Rattle.interval_writer.specs.Writing.{writeInterval};
+ghost use Rattle.face.specs.Face.{openedOf, changedOf, takenOf, numbersOf, storedOf, loadedOf, readOf, writeOf, rowsOf, energyOf};
 ghost use Rattle.replay.specs.Replay.{lentOf, outcome, replayed};
 ghost use Rattle.replay.specs.Promise.{promised};
 ghost use Rattle.capi.specs.Host.{year, indexAnswer};
@@ -147,6 +155,46 @@ pub extern "C" fn guxhamole_load(image: &[u8], ring: &mut [i32]) -> Kept
     let book = loaded.book;
     let answer = loaded.answer;
     kept_of(book, answer)
+}
+
+// Reads the interval that stands at a place of `records` into the four slices.
+#[no_mangle]
+pub extern "C" fn guxhamole_interval_read(
+    book: Book,
+    records: &[u8],
+    at: usize,
+    prices: &mut [i32],
+    marks: &mut [u8],
+    flows: &mut [i32],
+    factors: &mut [u32],
+) -> Found
+    ensures { λ r. ⌜ (let lent = intervalOf 0 0 (now (prices .entry)) (now (marks .entry)) (now (flows .entry)) (now (factors .entry)) in
+        readOf r book (now (prices .exit)) (now (marks .exit)) (now (flows .exit)) (now (factors .exit))
+        ≡ readInterval book (now (records .entry)) at lent) ⌝ }
+{
+    let taken = read_interval(book, records, at, prices, marks, flows, factors);
+    let found = taken.found;
+    found_of(found)
+}
+
+// Writes an interval as the first bytes of `buffer`; the bytes after it stay.
+#[no_mangle]
+pub extern "C" fn guxhamole_interval_write(
+    book: Book,
+    entry: u32,
+    kind: u8,
+    prices: &[i32],
+    marks: &[u8],
+    flows: &[i32],
+    factors: &[u32],
+    buffer: &mut [u8],
+) -> Written
+    ensures { λ r. ⌜ (let v = intervalOf entry kind (now (prices .entry)) (now (marks .entry)) (now (flows .entry)) (now (factors .entry)) in
+        writeOf r book (now (buffer .exit)) ≡ writeInterval book v (now (buffer .entry))) ⌝ }
+{
+    let written = write_interval(book, entry, kind, prices, marks, flows, factors, buffer);
+    let size = written.size;
+    interval_of(size)
 }
 
 // The schedule of one market from 28 days of prices and their kinds; `energy` 0 is a service, anything else energy.

@@ -20,12 +20,20 @@ use Rattle.image.specs.Storing as Storing
 use Rattle.image.specs.Storing.{pricesOk, storeVerdict, stored}
 use Rattle.image.specs.Loading as Loading
 use Rattle.entries.specs.Entering as Entering
+use Rattle.interval_records.specs.Layout.{Interval, intervalOf}
+use Rattle.intervals.specs.Reading as Reading
+use Rattle.intervals.specs.Reading.{readInterval}
+use Rattle.intervals.proofs.Places.{read-place, read-book}
+use Rattle.interval_writer.specs.Writing as Writing
+use Rattle.interval_writer.specs.Writing.{writeInterval}
+use Rattle.interval_writer.proofs.Places.{write-place, write-book}
 use Rattle.face.specs.declared.Kept.{Kept}
 use Rattle.face.specs.declared.Taken.{Taken}
 use Rattle.face.specs.declared.Seen.{Seen}
 use Rattle.face.specs.declared.Written.{Written}
-use Rattle.face.specs.Face.{verdictBy, keptBy, takenBy, seenBy, writtenBy}
-use Rattle.face.specs.Face.{openedOf, changedOf, loadedOf, takenOf, numbersOf, storedOf}
+use Rattle.face.specs.declared.Found.{Found}
+use Rattle.face.specs.Face.{verdictBy, keptBy, takenBy, seenBy, writtenBy, foundBy}
+use Rattle.face.specs.Face.{openedOf, changedOf, loadedOf, takenOf, numbersOf, storedOf, readOf, writeOf}
 
 -- ---- calls that hand back a book
 module _ (k : Kept) {v : Verdict} {b : Book} (e : k ≡ keptBy v b) where
@@ -97,3 +105,21 @@ module _ (b : Book) (ring : List ℤ) (buffer : List ℕ) where
       let p : v .place ≡ 0 = ap (λ (x : Storing.Outcome). x .verdict .place) h ∙ store-place in
       let q : c ≡ b = ap (λ (x : Storing.Outcome). x .book) h ∙ store-book in
       ap (λ (x : Written). storedOf x b after) e ∙ (rw (p, q) at h)
+
+-- ---- interval records: none of their refusals has a place
+pub read-by : (r : Found) {v : Verdict} {next entry kind : ℕ} {c : Book} {prices flows : List ℤ} {marked factors : List ℕ}
+    (b : Book) (bytes : List ℕ) (at : ℕ) (lent : Interval) → r ≡ foundBy v next entry kind
+    → record { verdict = v; next = next; book = c; interval = intervalOf entry kind prices marked flows factors } ≡ readInterval b bytes at lent
+    → readOf r b prices marked flows factors ≡ readInterval b bytes at lent
+read-by r {v} {next} {entry} {kind} {c} {prices} {flows} {marked} {factors} b bytes at lent e h =
+    let p : v .place ≡ 0 = ap (λ (x : Reading.Outcome). x .verdict .place) h ∙ read-place b bytes at lent in
+    let q : c ≡ b = ap (λ (x : Reading.Outcome). x .book) h ∙ read-book b bytes at lent in
+    ap (λ (x : Found). readOf x b prices marked flows factors) e ∙ (rw (p, q) at h)
+
+pub write-by : (r : Written) {v : Verdict} {n : ℕ} {c : Book} {after : List ℕ} (b : Book) (i : Interval) (buffer : List ℕ)
+    → r ≡ writtenBy v n → record { verdict = v; length = n; book = c; buffer = after } ≡ writeInterval b i buffer
+    → writeOf r b after ≡ writeInterval b i buffer
+write-by r {v} {n} {c} {after} b i buffer e h =
+    let p : v .place ≡ 0 = ap (λ (x : Writing.Outcome). x .verdict .place) h ∙ write-place b i buffer in
+    let q : c ≡ b = ap (λ (x : Writing.Outcome). x .book) h ∙ write-book b i buffer in
+    ap (λ (x : Written). writeOf x b after) e ∙ (rw (p, q) at h)

@@ -12,11 +12,15 @@ use Rattle.book.specs.Report as Report
 use Rattle.image.specs.Storing as Storing
 use Rattle.image.specs.Loading as Loading
 use Rattle.entries.specs.Entering as Entering
+use Rattle.interval_records.specs.Layout.{intervalOf}
+use Rattle.intervals.specs.Reading as Reading
+use Rattle.interval_writer.specs.Writing as Writing
 use Rattle.schedule.specs.Schedule as Schedule
 use Rattle.face.specs.declared.Kept.{Kept}
 use Rattle.face.specs.declared.Taken.{Taken}
 use Rattle.face.specs.declared.Seen.{Seen}
 use Rattle.face.specs.declared.Written.{Written}
+use Rattle.face.specs.declared.Found.{Found}
 use Rattle.face.specs.declared.Rows.{Rows}
 
 -- "number" and "place" beside each other: number 0 is an acceptance
@@ -46,6 +50,19 @@ numbersOf r =
 abbrev pub storedOf : Written → Book → List ℕ → Storing.Outcome
 storedOf r book buffer = record { verdict = verdictBy (r .number) 0; length = r .length; book = book; buffer = buffer }
 
+-- 2026-01: "10, 11", 40 to 42, which have no place; the book is the caller's
+abbrev pub readOf : Found → Book → List ℤ → List ℕ → List ℤ → List ℕ → Reading.Outcome
+readOf r book prices marked flows factors = record {
+  verdict = verdictBy (r .number) 0;
+  next = r .next;
+  book = book;
+  interval = intervalOf (r .entry) (r .kind) prices marked flows factors;
+}
+
+-- 2026-01: "10, 11 and the writer's 23", which have no place; the book is the caller's
+abbrev pub writeOf : Written → Book → List ℕ → Writing.Outcome
+writeOf r book buffer = record { verdict = verdictBy (r .number) 0; length = r .length; book = book; buffer = buffer }
+
 abbrev pub rowsOf : Rows → Schedule.Outcome
 rowsOf r = record { verdict = verdictBy (r .number) (r .place); weekday = r .weekday; weekend = r .weekend }
 
@@ -65,3 +82,6 @@ seenBy n = record { number = n .verdict .number; counted = n .counted; mark = n 
 
 abbrev pub writtenBy : Verdict → ℕ → Written
 writtenBy v length = record { number = v .number; length = length }
+
+abbrev pub foundBy : Verdict → ℕ → ℕ → ℕ → Found
+foundBy v next entry kind = record { number = v .number; next = next; entry = entry; kind = kind }

@@ -1,4 +1,4 @@
-// What a host in C is answered: the answers of the calls on a book, and of the schedule maker, as plain structs laid out as in C.
+// What a host in C is answered: the answers of the calls on a book and of the schedule maker, as plain structs laid out as in C.
 use book::record::Answer;
 use book::record::Book;
 use book::record::number;
@@ -8,14 +8,17 @@ use book::record::place_in;
 use book::report::Reading;
 use entries::Publication;
 use image::storing::Image;
+use interval_writer::writing::Size;
 use schedule::Making;
 ghost use mathlib.Core.Path.{_≡_};
 ghost use Rattle.book.specs.Record.{verdict};
 ghost use Rattle.book.specs.Report.{numbers};
 ghost use Rattle.entries.specs.Entering as Entering;
 ghost use Rattle.image.specs.Storing as Storing;
+ghost use Rattle.intervals.specs.Reading as Intervals;
+ghost use Rattle.interval_writer.specs.Writing as Writing;
 ghost use Rattle.schedule.specs.Schedule.{verdictOf, answered};
-ghost use Rattle.face.specs.Face.{keptBy, takenBy, seenBy, writtenBy, rowsOf};
+ghost use Rattle.face.specs.Face.{keptBy, takenBy, seenBy, writtenBy, foundBy, rowsOf};
 
 // `guxhamole_kept`: a call that hands back a book and nothing else.
 #[repr(C)]
@@ -44,11 +47,20 @@ pub struct Seen {
     pub sum: i64,
 }
 
-// `guxhamole_stored`: an image's length. A store's refusals have no place.
+// `guxhamole_stored`: the length of an image, or of an interval's records. The refusals of these calls have no place.
 #[repr(C)]
 pub struct Written {
     pub number: u32,
     pub length: u64,
+}
+
+// `guxhamole_found`: the place after an interval that was read, its entry number and its day kind. A read's refusals have no place.
+#[repr(C)]
+pub struct Found {
+    pub number: u32,
+    pub next: u64,
+    pub entry: u32,
+    pub kind: u32,
 }
 
 // `guxhamole_rows`: a schedule.
@@ -126,6 +138,41 @@ pub fn written_of(image: Image) -> Written
         Image::Refused(refusal) => Written {
             number: number(refusal),
             length: 0,
+        },
+    }
+}
+
+// Of an interval that was written.
+pub fn interval_of(size: Size) -> Written
+    ensures { λ r. ⌜ r ≡ writtenBy (Writing.verdict size) (Writing.lengthIn size) ⌝ }
+{
+    match size {
+        Size::Length(length) => Written {
+            number: 0,
+            length: length as u64,
+        },
+        Size::Refused(refusal) => Written {
+            number: number(refusal),
+            length: 0,
+        },
+    }
+}
+
+pub fn found_of(found: intervals::reading::Found) -> Found
+    ensures { λ r. ⌜ r ≡ foundBy (Intervals.verdict found) (Intervals.nextIn found) (Intervals.numberIn found) (Intervals.kindIn found) ⌝ }
+{
+    match found {
+        intervals::reading::Found::At { next, number, kind } => Found {
+            number: 0,
+            next: next as u64,
+            entry: number,
+            kind: kind as u32,
+        },
+        intervals::reading::Found::Refused(refusal) => Found {
+            number: number(refusal),
+            next: 0,
+            entry: 0,
+            kind: 0,
         },
     }
 }
