@@ -1,6 +1,7 @@
 // What a host in C is answered: the answers of the calls on a book and of the schedule maker, as plain structs laid out as in C.
 use book::record::Answer;
 use book::record::Book;
+use book::record::Refusal;
 use book::record::number;
 use book::record::number_in;
 use book::record::place;
@@ -11,6 +12,7 @@ use image::storing::Image;
 use interval_writer::writing::Size;
 use schedule::Making;
 ghost use mathlib.Core.Path.{_≡_};
+ghost use Rattle.book.specs.Record as Record;
 ghost use Rattle.book.specs.Record.{verdict};
 ghost use Rattle.book.specs.Report.{numbers};
 ghost use Rattle.entries.specs.Entering as Entering;
@@ -127,6 +129,16 @@ pub fn seen_of(reading: Reading) -> Seen
     }
 }
 
+// A refused store or write.
+fn not_written(refusal: Refusal) -> Written
+    ensures { λ r. ⌜ r ≡ writtenBy (Record.verdictOf refusal) 0 ⌝ }
+{
+    Written {
+        number: number(refusal),
+        length: 0,
+    }
+}
+
 pub fn written_of(image: Image) -> Written
     ensures { λ r. ⌜ r ≡ writtenBy (Storing.verdict image) (Storing.lengthIn image) ⌝ }
 {
@@ -135,10 +147,7 @@ pub fn written_of(image: Image) -> Written
             number: 0,
             length: length as u64,
         },
-        Image::Refused(refusal) => Written {
-            number: number(refusal),
-            length: 0,
-        },
+        Image::Refused(refusal) => not_written(refusal),
     }
 }
 
@@ -147,14 +156,11 @@ pub fn interval_of(size: Size) -> Written
     ensures { λ r. ⌜ r ≡ writtenBy (Writing.verdict size) (Writing.lengthIn size) ⌝ }
 {
     match size {
-        Size::Length(length) => Written {
+        Size::Length(bytes) => Written {
             number: 0,
-            length: length as u64,
+            length: bytes as u64,
         },
-        Size::Refused(refusal) => Written {
-            number: number(refusal),
-            length: 0,
-        },
+        Size::Refused(refusal) => not_written(refusal),
     }
 }
 

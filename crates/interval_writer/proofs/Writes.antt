@@ -29,7 +29,8 @@ use Rattle.book.specs.Validity.{valid}
 use Rattle.book.proofs.Ways.{refusal-is}
 use Rattle.interval_records.specs.Layout.{Interval, intervalOf, headWidths, headLength, regionWidths, regionLength, rowOf}
 use Rattle.interval_records.specs.Layout.{intervalLength, lengthFor, headRecord, regionRecord, intervalBytes}
-use Rattle.intervals.specs.Lent.{lengthsOk, slicesOk, lentVerdict}
+use Rattle.intervals.specs.Lent.{lengthsOk, slicesOk}
+use Rattle.intervals.specs.Working.{lentVerdict}
 use Rattle.interval_records.proofs.Says.{region-length}
 use Rattle.intervals.proofs.Intervals.{joined-length}
 use Rattle.interval_writer.specs.declared.writing.Size.the-variants.{Length, Refused as Not-written}

@@ -26,7 +26,8 @@ use Rattle.book.proofs.Ways.{refusal-is}
 use Rattle.book.proofs.Validities.{valid-is}
 use Rattle.intervals.specs.declared.reading.Found.the-variants.{At, Refused as Not-found}
 use Rattle.interval_records.specs.Layout.{Interval, headLength, regionLength, lengthFor, intervalOf}
-use Rattle.intervals.specs.Lent.{slicesOk, lentVerdict}
+use Rattle.intervals.specs.Lent.{slicesOk}
+use Rattle.intervals.specs.Working.{lentVerdict}
 use Rattle.interval_records.specs.AnyOrder.{recordsVerdict, recordOf}
 use Rattle.intervals.specs.Reading.{markFrom, flowFrom, factorFrom, priceFrom, readVerdict, Outcome, outcome, readInterval}
 use Rattle.interval_records.proofs.AnyOrder.{given-is, record-below}

@@ -5,7 +5,7 @@ use book::record::Refusal;
 use book::validity::valid;
 ghost use mathlib.Core.Path.{_≡_};
 ghost use Rattle.book.specs.Record.{verdict};
-ghost use Rattle.intervals.specs.Lent.{lentVerdict};
+ghost use Rattle.intervals.specs.Working.{lentVerdict};
 
 // 10, then 11. The slices are told by their lengths.
 pub fn lent_verdict(

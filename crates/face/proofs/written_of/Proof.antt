@@ -1,5 +1,5 @@
 -- `face::written_of` meets its contract. Assumes nothing.
-use mathlib.Core.Path.{_≡_, sym, ap}
+use mathlib.Core.Path.{_≡_, sym, ap, _∙_}
 use Rattle.image.specs.declared.storing.Image.{Image}
 use Rattle.image.specs.Storing.{verdict, lengthIn}
 use Rattle.face.specs.Face.{writtenBy}
@@ -17,15 +17,15 @@ enum-known-image c = search needs
 enum-known-image-2 : tie.Need-enum-known-image-2
 enum-known-image-2 c = search needs
 
-number-requires : tie.Need-number-requires
-number-requires c κs = search needs
+not-written-requires : tie.Need-not-written-requires
+not-written-requires c κs = search needs
 
 returns : tie.Need-returns
 returns c = of _ _ (c .before .image .given .1)
 
 returns-2 : tie.Need-returns-2
-returns-2 c = rw (c .number .ensures) (of _ _ (c .before .before .image2 .given .1))
+returns-2 c = c .not-written .ensures ∙ of _ _ (c .before .before .image2 .given .1)
 
 pub written-of-spec : {M : Type 1} → statement M
 written-of-spec =
-    tie.close (tie.spec enum-known-image enum-known-image-2 number-requires returns returns-2)
+    tie.close (tie.spec enum-known-image enum-known-image-2 not-written-requires returns returns-2)

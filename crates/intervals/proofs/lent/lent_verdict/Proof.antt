@@ -10,7 +10,8 @@ use Rattle.book.specs.declared.record.Book.{Book}
 use Rattle.book.specs.Record.{marketsOf, tableSize}
 use Rattle.book.specs.Validity.{valid}
 use Rattle.book.proofs.Validities.{valid-is}
-use Rattle.intervals.specs.Lent.{lengthsOk, lentVerdict}
+use Rattle.intervals.specs.Lent.{lengthsOk}
+use Rattle.intervals.specs.Working.{lentVerdict}
 use borrow.Author.Needs.{needs}
 use Rattle.intervals.proofs.lent.lent_verdict.Statement.{statement}
 use Rattle.intervals.proofs.lent.lent_verdict.Tie as tie
