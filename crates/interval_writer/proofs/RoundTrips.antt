@@ -29,7 +29,8 @@ use Rattle.interval_records.proofs.AnyOrder.{Given, given-is, is-given, ordered
 use Rattle.interval_records.proofs.Heads.{Ordered}
 use Rattle.intervals.proofs.Readings.{read-region, read-head}
 use Rattle.interval_writer.specs.Writing.{writeLengths, writeVerdict, writeInterval}
-use Rattle.interval_writer.proofs.Writes.{Writes, accepted-writes, prices-size, marked-size, flows-size, factors-size}
+use Rattle.intervals.proofs.Sizes.{prices-size, marked-size, flows-size, factors-size}
+use Rattle.interval_writer.proofs.Writes.{Writes, accepted-writes}
 
 says-order : (R M : ℕ) (bytes : List ℕ) (at : ℕ) (v : Interval) → Says R M bytes at v → Ordered R M bytes at
 says-order R M bytes at v y = record {

@@ -1,13 +1,13 @@
 -- The writer of interval records, in plain numbers and lists: its fields put one behind the other, the loop over regions, what its
 -- tests say, and the outcome by the way the call takes. Assumes nothing.
 use mathlib.Core.Path.{_≡_, refl, sym, ap, _∙_}
-use mathlib.Core.Bool.{Bool, true, false, _&&_}
+use mathlib.Core.Bool.{true, false}
 use mathlib.Core.List.{List, [], _∷_, _++_}
 use Prim.Native.Nat.{ℕ, suc, _+_, _*_, _-_, _<_, _≤_}
 use native.Mathlib.Nat.{suc-mul}
 use native.Mathlib.Omega.{arith}
-use borrow.Author.Tests.{eqb-true, lt-ltb, le-ltb, ltb-false}
-use lib.Dec.{eqb, ltb}
+use borrow.Author.Tests.{lt-ltb, le-ltb, ltb-false}
+use lib.Dec.{ltb}
 use lib.IntN.{ℤ, pos}
 use lib.ListN.{length, getD, drop, length-append}
 use lib.Seq.{sets}
@@ -18,13 +18,13 @@ use Rattle.laws.specs.Lists.{joined}
 use Rattle.laws.specs.Bytes.{le, encode, sizeOf, words}
 use Rattle.laws.proofs.Bytes.{length-le, sets-append, sets-front}
 use Rattle.laws.proofs.Fields.{part-then, length-encode}
-use Rattle.laws.proofs.Tests.{and-left, and-right, by-test, true-is}
+use Rattle.laws.proofs.Tests.{by-test, true-is}
 use Rattle.pricing.specs.Verdict.{accepted, refused}
 use Rattle.book.specs.declared.record.Book.{Book}
 use Rattle.book.specs.declared.record.Refusal.{Refusal}
 use Rattle.book.specs.declared.record.Answer.{Answer}
 use Rattle.book.specs.declared.record.Answer.the-variants.{Accepted, Refused}
-use Rattle.book.specs.Record.{marketsOf, tableSize, verdict, isAccepted}
+use Rattle.book.specs.Record.{marketsOf, verdict, isAccepted}
 use Rattle.book.specs.Validity.{valid}
 use Rattle.book.proofs.Ways.{refusal-is}
 use Rattle.interval_records.specs.Layout.{Interval, intervalOf, headWidths, headLength, regionWidths, regionLength, rowOf}
@@ -32,7 +32,7 @@ use Rattle.interval_records.specs.Layout.{intervalLength, lengthFor, headRecord
 use Rattle.intervals.specs.Lent.{lengthsOk, slicesOk}
 use Rattle.intervals.specs.Working.{lentVerdict}
 use Rattle.interval_records.proofs.Says.{region-length}
-use Rattle.intervals.proofs.Intervals.{joined-length}
+use Rattle.intervals.proofs.Intervals.{bytes-length}
 use Rattle.interval_writer.specs.declared.writing.Size.the-variants.{Length, Refused as Not-written}
 use Rattle.interval_writer.specs.Writing.{writeLengths, writeVerdict, outcome, writeInterval}
 
@@ -104,43 +104,7 @@ module _ (f : ℕ → List ℕ) (size first : ℕ) where
   unfolding joined
   regions-done l r at R q h e = let z : R - q ≡ 0 = omega arith in rw z at e
 
--- ---- how long an interval's bytes are
-pub bytes-length : (R M : ℕ) (v : Interval) → length (intervalBytes R M v) ≡ intervalLength R M
-unfolding intervalBytes headRecord headWidths sizeOf
-bytes-length R M v =
-    length-append (headRecord R v) (joined R 0 (regionRecord M v))
-    ∙ omega (
-      arith,
-      length-encode headWidths (headLength ∷ 16 ∷ v .number ∷ v .kind ∷ R ∷ []) refl,
-      joined-length (regionRecord M v) (regionLength M) R 0 (region-length M v),
-    )
-
 -- ---- what the tests of an accepted write say
-module _ (b : Book) (v : Interval) (e : slicesOk b v ≡ true) where
-  abbrev p : Bool
-  p = eqb (length (v .prices)) (tableSize (b .regions) (b .services))
-
-  abbrev m : Bool
-  m = eqb (length (v .marked)) (b .regions)
-
-  abbrev f : Bool
-  f = eqb (length (v .flows)) (b .regions)
-
-  abbrev x : Bool
-  x = eqb (length (v .factors)) (b .regions)
-
-  pub prices-size : length (v .prices) ≡ tableSize (b .regions) (b .services)
-  prices-size = eqb-true _ _ (and-left p m (and-left (p && m) f (and-left (p && m && f) x e)))
-
-  pub marked-size : length (v .marked) ≡ b .regions
-  marked-size = eqb-true _ _ (and-right p m (and-left (p && m) f (and-left (p && m && f) x e)))
-
-  pub flows-size : length (v .flows) ≡ b .regions
-  flows-size = eqb-true _ _ (and-right (p && m) f (and-left (p && m && f) x e))
-
-  pub factors-size : length (v .factors) ≡ b .regions
-  factors-size = eqb-true _ _ (and-right (p && m && f) x e)
-
 pub record Writes (b : Book) (v : Interval) (room : ℕ) : Type 0 where
   pub book : valid b ≡ true
   pub slices : slicesOk b v ≡ true

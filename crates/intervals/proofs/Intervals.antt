@@ -1,6 +1,6 @@
 -- What the bytes of a whole interval say, and the bytes that say it. Assumes nothing.
 use mathlib.Core.Path.{_≡_, refl, ap, _∙_}
-use mathlib.Core.List.{List, _++_, append-assoc, append-nil}
+use mathlib.Core.List.{List, [], _∷_, _++_, append-assoc, append-nil}
 use Prim.Native.Nat.{ℕ, zero, suc, _+_, _-_, _*_, _/_, _%_, _<_, _≤_}
 use native.Mathlib.Nat.{mul-le-mul-right, suc-mul, div-add-mod', mod-lt, div-lt-iff-lt-mul}
 use native.Mathlib.Omega.{arith}
@@ -56,6 +56,17 @@ joined-bytes f size first bytes (suc n) k h =
 pub joined-length : (f : ℕ → List ℕ) (size n k : ℕ) → ((j : ℕ) → length (f j) ≡ size) → length (joined n k f) ≡ n * size
 joined-length f size n k h = length-joined f (λ _. size) n k (λ j p q. h j) ∙ sum-same n k size (λ _. size) (λ j l. refl)
 
+-- ---- how long an interval's bytes are
+pub bytes-length : (R M : ℕ) (v : Interval) → length (intervalBytes R M v) ≡ intervalLength R M
+unfolding intervalBytes headRecord headWidths sizeOf
+bytes-length R M v =
+    length-append (headRecord R v) (joined R 0 (regionRecord M v))
+    ∙ omega (
+      arith,
+      length-encode headWidths (headLength ∷ 16 ∷ v .number ∷ v .kind ∷ R ∷ []) refl,
+      joined-length (regionRecord M v) (regionLength M) R 0 (region-length M v),
+    )
+
 module _ (R M : ℕ) (small : R ≤ 8) (few : M ≤ 11) (v : Interval) where
   abbrev rec : ℕ → List ℕ
   rec = regionRecord M v
@@ -94,17 +105,13 @@ module _ (R M : ℕ) (small : R ≤ 8) (few : M ≤ 11) (v : Interval) where
         length-append pre (headRecord R v ++ joined k 0 rec)
         ∙ omega (arith, length-append (headRecord R v) (joined k 0 rec), head-length, joined-length rec (regionLength M) k 0 rec-length)
 
-    all-length : length (intervalBytes R M v) ≡ intervalLength R M
-    unfolding intervalBytes
-    all-length = length-append (headRecord R v) (joined R 0 rec) ∙ omega (arith, head-length, joined-length rec (regionLength M) R 0 rec-length)
-
     the-head : HeadSays R (pre ++ (intervalBytes R M v ++ post)) (length pre) v
     unfolding intervalBytes
     the-head = rw (append-assoc (headRecord R v) (joined R 0 rec) post) (head-says R v (omega arith) f pre (joined R 0 rec ++ post))
 
     pub bytes-say : Says R M (pre ++ (intervalBytes R M v ++ post)) (length pre) v
     bytes-say = record {
-      room = omega (arith, length-append pre (intervalBytes R M v ++ post), length-append (intervalBytes R M v) post, all-length);
+      room = omega (arith, length-append pre (intervalBytes R M v ++ post), length-append (intervalBytes R M v) post, bytes-length R M v);
       head = the-head;
       regions = λ k h. rw (apart k h, ← place k) (region-says M v few f k (omega arith) (pre ++ (headRecord R v ++ joined k 0 rec)) (joined (R - suc k) (suc k) rec ++ post));
     }

@@ -1,4 +1,5 @@
 pub mod Intervals
 pub mod Readings
+pub mod Sizes
 pub mod Ways
 pub mod Places

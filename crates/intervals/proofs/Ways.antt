@@ -1,19 +1,17 @@
 -- What reading an interval comes to, by the way the code takes, and what its loop over the regions leaves. Assumes nothing.
 use mathlib.Core.Path.{_≡_, refl, sym, ap, _∙_}
-use mathlib.Core.Bool.{true, false, _&&_}
+use mathlib.Core.Bool.{true, false}
 use mathlib.Core.List.{List, _++_}
 use Prim.Native.Nat.{ℕ, zero, suc, _+_, _*_, _<_, _≤_}
 use native.Mathlib.Nat.{zero-mul, mul-le-mul-right, suc-mul}
 use native.Mathlib.Omega.{arith}
-use borrow.Author.Tests.{eqb-true}
-use lib.Dec.{eqb}
 use lib.IntN.{ℤ}
 use lib.ListN.{length, drop}
 use mir.Syntax.{w32}
 use mir.Val.{toZ}
 use Rattle.laws.specs.Lists.{run, tabulate}
 use Rattle.laws.specs.Bytes.{numberAt, priceAt}
-use Rattle.laws.proofs.Tests.{by-test, and-left, and-right, true-is}
+use Rattle.laws.proofs.Tests.{by-test, true-is}
 use Rattle.laws.proofs.Lists.{run-same, flat-div, flat-mod, tab-done}
 use Rattle.pricing.specs.Verdict.{Verdict}
 use Rattle.book.specs.declared.record.Book.{Book}
@@ -31,6 +29,7 @@ use Rattle.intervals.specs.Working.{lentVerdict}
 use Rattle.interval_records.specs.AnyOrder.{recordsVerdict, recordOf}
 use Rattle.intervals.specs.Reading.{markFrom, flowFrom, factorFrom, priceFrom, readVerdict, Outcome, outcome, readInterval}
 use Rattle.interval_records.proofs.AnyOrder.{given-is, record-below}
+use Rattle.intervals.proofs.Sizes.{prices-size, marked-size, flows-size, factors-size}
 
 -- ---- the room of an accepted interval: its head, all its records and each region's own
 module _ (R M : ℕ) (bytes : List ℕ) (at : ℕ) (e : isAccepted (recordsVerdict R M bytes at) ≡ true) where
@@ -117,16 +116,8 @@ module _ (b : Book) (bytes : List ℕ) (at : ℕ) (v : Interval) where
           × (length (v .flows) ≡ linkCount b)
           × (length (v .factors) ≡ linkCount b)
       lengths =
-          let p = eqb (length (v .prices)) (tableSize (b .regions) (b .services)) in
-          let m = eqb (length (v .marked)) (b .regions) in
-          let f = eqb (length (v .flows)) (linkCount b) in
-          let x = eqb (length (v .factors)) (linkCount b) in
-          let l = and-left (p && m && f) x (passed .1) in (
-            eqb-true (length (v .prices)) (tableSize (b .regions) (b .services)) (and-left p m (and-left (p && m) f l)),
-            eqb-true (length (v .marked)) (b .regions) (and-right p m (and-left (p && m) f l)),
-            eqb-true (length (v .flows)) (linkCount b) (and-right (p && m) f l),
-            eqb-true (length (v .factors)) (linkCount b) (and-right (p && m && f) x (passed .1)),
-          )
+          let s = passed .1 in
+          (prices-size b v s, marked-size b v s, flows-size b v s, factors-size b v s)
 
       pub markets-few : marketsOf (b .services) ≤ 256
       markets-few = omega (arith, valid-is b (passed .0) .services)

@@ -3,7 +3,8 @@ use mathlib.Core.Path.{_≡_}
 use native.Mathlib.Omega.{arith}
 use lib.ListN.{length}
 use Rattle.interval_records.specs.Layout.{Interval, intervalOf, lengthFor}
-use Rattle.interval_writer.proofs.Writes.{Writes, prices-size, marked-size, flows-size, factors-size}
+use Rattle.intervals.proofs.Sizes.{prices-size, marked-size, flows-size, factors-size}
+use Rattle.interval_writer.proofs.Writes.{Writes}
 use Rattle.interval_writer.proofs.Writes.{write-asks, written-refused, written-accepted}
 use borrow.Author.Needs.{needs}
 use Rattle.interval_writer.proofs.writing.write_interval.Statement.{statement}
