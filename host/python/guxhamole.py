@@ -56,7 +56,7 @@ MEANINGS = {
     20: "a setting outside its limits",
     21: "a region or market that the book does not have",
     22: "the ring is not this book's, or was changed by others",
-    23: "a buffer shorter than the image",
+    23: "a buffer shorter than the image, or than the interval's records",
     24: "an image's length",
     25: "an image's kind",
     26: "a field of an image outside its limits",

@@ -1,4 +1,4 @@
 // Interval records from the plant bus: their layout, and the refusals of an interval's records.
 pub mod any_order;
 pub mod layout;
-pub mod record;
+mod record;

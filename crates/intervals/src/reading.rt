@@ -37,7 +37,7 @@ pub struct Taken {
 }
 
 // The numbers of a region's record at a place.
-pub fn read_region(
+fn read_region(
     bytes: &[u8],
     at: usize,
     region: usize,
