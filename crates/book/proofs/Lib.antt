@@ -1,4 +1,3 @@
 pub mod Ways
 pub mod Validities
 pub mod Passes
-pub mod Kept

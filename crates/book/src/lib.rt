@@ -1,6 +1,3 @@
-// The book record and rule 10, opening, the threshold and limit settings, the report, and the refusals that all calls share.
-pub mod opening;
+// The book record and rule 10, and the refusals that all calls share.
 pub mod record;
-pub mod report;
-pub mod setting;
 pub mod validity;

@@ -1,6 +1,6 @@
 // The book record, the settings that it is opened with, and the refusals of every call on a book with their numbers and places.
 ghost use mathlib.Core.Path.{_≡_};
-ghost use Rattle.book.specs.Record.{closed, verdictOf, verdict};
+ghost use Rattle.book.specs.Record.{closed, ringSize, verdictOf, verdict};
 
 // A book by value. The sum and the period mark of a market stand at 11 × region + market; a region's count and next place
 // serve all its markets. `position` is the next entry's. Laid out as in C: a host keeps it between calls.
@@ -148,4 +148,11 @@ pub fn place_in(answer: Answer) -> usize
         Answer::Accepted => 0,
         Answer::Refused(refusal) => place(refusal),
     }
+}
+
+// R × M × W, for any numbers.
+pub fn ring_size(regions: u8, services: u8, window: u16) -> usize
+    ensures { λ r. ⌜ r ≡ ringSize regions services window ⌝ }
+{
+    regions as usize * (services as usize + 1) * window as usize
 }

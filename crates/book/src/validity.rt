@@ -15,7 +15,7 @@ fn parent_ok(regions: usize, r: usize, parent: usize) -> bool
     (parent == 255) | ((r < regions) & (parent < r))
 }
 
-pub(crate) fn parents_ok(regions: usize, parents: [u8; 8]) -> bool
+pub fn parents_ok(regions: usize, parents: [u8; 8]) -> bool
     ensures { λ x. ⌜ x ≡ parentsOk regions parents ⌝ }
 {
     let mut ok = true;
@@ -27,7 +27,7 @@ pub(crate) fn parents_ok(regions: usize, parents: [u8; 8]) -> bool
     ok
 }
 
-pub(crate) fn shape_ok(regions: u8, services: u8, window: u16, halves: u8, position: u16) -> bool
+pub fn shape_ok(regions: u8, services: u8, window: u16, halves: u8, position: u16) -> bool
     ensures { λ x. ⌜ x ≡ shapeOk regions services window halves position ⌝ }
 {
     (1 <= regions)
@@ -40,7 +40,7 @@ pub(crate) fn shape_ok(regions: u8, services: u8, window: u16, halves: u8, posit
         & ((position as usize) < 6 * halves as usize)
 }
 
-pub(crate) fn threshold_ok(threshold: i64) -> bool
+pub fn threshold_ok(threshold: i64) -> bool
     ensures { λ x. ⌜ x ≡ thresholdOk threshold ⌝ }
 {
     (1 <= threshold) & (threshold <= 100000000000)

@@ -1,12 +1,12 @@
 // What a C host calls: the book that it keeps between calls, interval records, the schedule maker, the amount text, the index, the image
 // check and the replay, over plain numbers and the host's own memory. Each function is one call of the proved operation.
 use amount::write_amount;
-use book::opening::open;
 use book::record::Book;
 use book::record::Settings;
-use book::report::report;
-use book::setting::set_limits;
-use book::setting::set_threshold;
+use book_calls::opening::open;
+use book_calls::report::report;
+use book_calls::setting::set_limits;
+use book_calls::setting::set_threshold;
 use entries::enter;
 use face::Found;
 use face::Kept;
@@ -37,9 +37,9 @@ ghost use lib.ListN.{length};
 ghost use lib.Seq.{sets};
 ghost use Rattle.amount.specs.Text.{amountText, countIn, writtenIn};
 ghost use Rattle.schedule.specs.Schedule as Schedule;
-ghost use Rattle.book.specs.Opening.{opened};
-ghost use Rattle.book.specs.Setting.{setThreshold, setLimits};
-ghost use Rattle.book.specs.Report.{reportOf};
+ghost use Rattle.book_calls.specs.Opening.{opened};
+ghost use Rattle.book_calls.specs.Setting.{setThreshold, setLimits};
+ghost use Rattle.book_calls.specs.Report.{reportOf};
 ghost use Rattle.publishing.specs.Entry.{entryOf};
 ghost use Rattle.entries.specs.Entering.{entered};
 ghost use Rattle.image.specs.Storing.{stored};

@@ -12,9 +12,9 @@ use Rattle.pricing.specs.Verdict.{Verdict, accepted, refused}
 use Rattle.book.specs.declared.record.Book.{Book}
 use Rattle.book.specs.Record.{ringSize, isAccepted}
 use Rattle.book.specs.Validity.{valid}
-use Rattle.book.specs.Opening as Opening
-use Rattle.book.specs.Setting as Setting
-use Rattle.book.specs.Report.{Numbers, nothing, reportVerdict, reportOf}
+use Rattle.book_calls.specs.Opening as Opening
+use Rattle.book_calls.specs.Setting as Setting
+use Rattle.book_calls.specs.Report.{Numbers, nothing, reportVerdict, reportOf}
 use Rattle.head.specs.Layout.{lengthOf}
 use Rattle.image.specs.Storing as Storing
 use Rattle.image.specs.Storing.{pricesOk, storeVerdict, stored}

@@ -6,9 +6,9 @@ use lib.Dec.{eqb}
 use lib.IntN.{ℤ}
 use Rattle.pricing.specs.Verdict.{Verdict}
 use Rattle.book.specs.declared.record.Book.{Book}
-use Rattle.book.specs.Opening as Opening
-use Rattle.book.specs.Setting as Setting
-use Rattle.book.specs.Report as Report
+use Rattle.book_calls.specs.Opening as Opening
+use Rattle.book_calls.specs.Setting as Setting
+use Rattle.book_calls.specs.Report as Report
 use Rattle.image.specs.Storing as Storing
 use Rattle.image.specs.Loading as Loading
 use Rattle.entries.specs.Entering as Entering

@@ -8,12 +8,12 @@
 //   r          report: region, market
 //   b          break the ring and the first sum, as others might; v: view that sum
 //   =          a heading to print; lines that begin with anything else are for the reader
-use book::opening::open;
 use book::record::Book;
 use book::record::closed;
-use book::report::report;
-use book::setting::set_limits;
-use book::setting::set_threshold;
+use book_calls::opening::open;
+use book_calls::report::report;
+use book_calls::setting::set_limits;
+use book_calls::setting::set_threshold;
 use entries::enter;
 use stage::printing::amount;
 use stage::printing::answered;

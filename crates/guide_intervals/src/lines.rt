@@ -9,9 +9,9 @@
 use crate::lists::byte_list;
 use crate::lists::number_list;
 use crate::lists::signed_list;
-use book::opening::open;
 use book::record::Book;
 use book::record::closed;
+use book_calls::opening::open;
 use interval_writer::writing::Size;
 use interval_writer::writing::write_interval;
 use intervals::reading::Found;

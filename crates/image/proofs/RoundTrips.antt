@@ -14,7 +14,7 @@ use Rattle.pricing.specs.Verdict.{accepted, refused}
 use Rattle.book.specs.declared.record.Book.{Book}
 use Rattle.book.specs.Record.{closed, ringSize, isAccepted}
 use Rattle.book.specs.Validity.{valid}
-use Rattle.book.specs.Report.{reportOf}
+use Rattle.book_calls.specs.Report.{reportOf}
 use Rattle.book.proofs.Validities.{is-valid}
 use Rattle.head.specs.Counted.{countAt, inOrder}
 use Rattle.head.specs.Layout.{lengthOf, headFrom, imageOf}

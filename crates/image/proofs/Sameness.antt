@@ -14,7 +14,7 @@ use Rattle.pricing.specs.Verdict.{Verdict, accepted}
 use Rattle.book.specs.declared.record.Book.{Book}
 use Rattle.book.specs.Record.{marketsOf, ringSize, isAccepted}
 use Rattle.book.specs.Validity.{valid}
-use Rattle.book.specs.Report.{reportOf}
+use Rattle.book_calls.specs.Report.{reportOf}
 use Rattle.head.specs.Counted.{marketCount, inOrder}
 use Rattle.head.specs.Layout.{widths, firsts, seconds, values, lengthOf, imageOf}
 use Rattle.image.specs.Storing.{pricesOk, storeVerdict, stored, Outcome}

@@ -1,10 +1,10 @@
 // Loading a book from an image, and the image check.
-use book::opening::ring_size;
 use book::record::Answer;
 use book::record::Book;
 use book::record::Refusal;
 use book::record::closed;
 use book::record::number;
+use book::record::ring_size;
 use book::validity::valid;
 use codec::get_u8;
 use codec::get_u16;

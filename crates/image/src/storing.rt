@@ -1,8 +1,8 @@
 // Storing a book as an image.
-use book::opening::ring_size;
 use book::record::Answer;
 use book::record::Book;
 use book::record::Refusal;
+use book::record::ring_size;
 use book::validity::valid;
 use codec::put_words;
 use head::counted::oldest;

@@ -16,7 +16,7 @@ use Rattle.laws.proofs.Lists.{tabulate-same, getD-tabulate}
 use Rattle.book.specs.declared.record.Book.{Book}
 use Rattle.book.specs.Record.{marketsOf, placeOf}
 use Rattle.book.specs.Validity.{usedPlace, valid}
-use Rattle.book.specs.Setting.{withSettings}
+use Rattle.book_calls.specs.Setting.{withSettings}
 use Rattle.book.proofs.Validities.{valid-is}
 use Rattle.head.specs.Counted.{inOrder}
 use Rattle.publishing.specs.declared.Terms.{Terms}

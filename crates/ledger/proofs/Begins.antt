@@ -14,9 +14,9 @@ use Rattle.laws.proofs.Lists.{tabulate-same, tabulate-const}
 use Rattle.book.specs.declared.record.Settings.{Settings}
 use Rattle.book.specs.Record.{ringSize, isAccepted}
 use Rattle.book.specs.Validity.{usedPlace, valid}
-use Rattle.book.specs.Opening.{openVerdict, fresh}
+use Rattle.book_calls.specs.Opening.{openVerdict, fresh}
 use Rattle.book.proofs.Validities.{is-valid}
-use Rattle.book.proofs.Kept.{accepts, fresh-is}
+use Rattle.book_calls.proofs.Kept.{accepts, fresh-is}
 use Rattle.ledger.specs.Ledger.{Ledger, entriesOf, before, lastSet, unmarkedPrices, administeredAt, marksAt, lastPrices, begin}
 use Rattle.ledger.specs.Book.{Held}
 use Rattle.ledger.proofs.Keeping.{fresh-kept, fresh-order}

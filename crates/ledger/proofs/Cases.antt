@@ -18,9 +18,9 @@ use Rattle.pricing.specs.Holding.{held}
 use Rattle.pricing.specs.Carrying.{carried}
 use Rattle.book.specs.declared.record.Settings.{Settings}
 use Rattle.book.specs.Validity.{valid}
-use Rattle.book.specs.Opening as Opening
-use Rattle.book.specs.Report as Report
-use Rattle.book.specs.Report.{Numbers}
+use Rattle.book_calls.specs.Opening as Opening
+use Rattle.book_calls.specs.Report as Report
+use Rattle.book_calls.specs.Report.{Numbers}
 use Rattle.routes.specs.Limits.{tighter, over}
 use Rattle.routes.specs.Links.{powerOf}
 use Rattle.routes.specs.Routes as Routes

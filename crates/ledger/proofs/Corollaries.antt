@@ -19,9 +19,9 @@ use Rattle.book.specs.declared.record.Book.{Book}
 use Rattle.book.specs.declared.record.Settings.{Settings}
 use Rattle.book.specs.Record.{marketsOf, tableSize, ringSize, isAccepted}
 use Rattle.book.specs.Validity.{thresholdOk, valid}
-use Rattle.book.specs.Setting.{thresholdVerdict, limitsVerdict, withSettings, changed, setThreshold, setLimits}
-use Rattle.book.specs.Report.{reportVerdict}
-use Rattle.book.specs.Opening as Opening
+use Rattle.book_calls.specs.Setting.{thresholdVerdict, limitsVerdict, withSettings, changed, setThreshold, setLimits}
+use Rattle.book_calls.specs.Report.{reportVerdict}
+use Rattle.book_calls.specs.Opening as Opening
 use Rattle.publishing.specs.Entry.{Entry}
 use Rattle.entries.specs.Checking.{Shape, lengthsOk, firstMark, firstPrice, firstFactor, entryVerdict}
 use Rattle.entries.specs.Entering as Entering

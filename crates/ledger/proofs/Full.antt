@@ -11,7 +11,7 @@ use lib.IntN.{pos, negsuc}
 use Rattle.laws.specs.Lists.{run, allBelow, firstOf}
 use Rattle.pricing.specs.Verdict.{refused}
 use Rattle.book.specs.declared.record.Settings.{Settings}
-use Rattle.book.specs.Opening as Opening
+use Rattle.book_calls.specs.Opening as Opening
 use Rattle.publishing.specs.Entry.{Entry, entryOf}
 use Rattle.entries.specs.Checking.{entryVerdict}
 use Rattle.ledger.specs.Calls.{Call, entry, Answer, entered, Step, answers, after}

@@ -19,8 +19,8 @@ use Rattle.book.specs.declared.record.Book.{Book}
 use Rattle.book.specs.declared.record.Settings.{Settings}
 use Rattle.book.specs.Record.{marketsOf, placeOf, ringSize, isAccepted}
 use Rattle.book.specs.Validity.{usedPlace, valid}
-use Rattle.book.specs.Opening.{fresh}
-use Rattle.book.specs.Setting.{withSettings}
+use Rattle.book_calls.specs.Opening.{fresh}
+use Rattle.book_calls.specs.Setting.{withSettings}
 use Rattle.book.proofs.Validities.{Valid, valid-is, is-valid}
 use Rattle.head.specs.Counted.{inOrder}
 use Rattle.image.specs.Storing.{pricesOk}

@@ -15,8 +15,8 @@ use Rattle.laws.proofs.Lists.{getD-tabulate}
 use Rattle.pricing.specs.Verdict.{accepted}
 use Rattle.book.specs.Record.{marketsOf, placeOf, isAccepted}
 use Rattle.book.specs.Validity.{usedPlace, valid}
-use Rattle.book.specs.Report as Report
-use Rattle.book.specs.Report.{Numbers, reportVerdict, nothing}
+use Rattle.book_calls.specs.Report as Report
+use Rattle.book_calls.specs.Report.{Numbers, reportVerdict, nothing}
 use Rattle.ledger.specs.Ledger as Ledger
 use Rattle.ledger.specs.Ledger.{Ledger, taken, lastPrices, administeredAt}
 use Rattle.ledger.specs.Book.{Held}

@@ -19,11 +19,11 @@ use Rattle.pricing.specs.Holding.{limitsOk}
 use Rattle.book.specs.declared.record.Book.{Book}
 use Rattle.book.specs.Record.{marketsOf, placeOf, ringSize, isAccepted}
 use Rattle.book.specs.Validity.{usedPlace, thresholdOk, valid}
-use Rattle.book.specs.Setting as Setting
-use Rattle.book.specs.Setting.{thresholdVerdict, limitsVerdict, withSettings, changed, setThreshold, setLimits}
+use Rattle.book_calls.specs.Setting as Setting
+use Rattle.book_calls.specs.Setting.{thresholdVerdict, limitsVerdict, withSettings, changed, setThreshold, setLimits}
 use Rattle.book.proofs.Validities.{Valid, valid-is, is-valid}
 use Rattle.book.proofs.Passes.{passes-not}
-use Rattle.book.proofs.Kept.{setting-valid}
+use Rattle.book_calls.proofs.Kept.{setting-valid}
 use Rattle.head.specs.Counted.{inOrder, marketCount}
 use Rattle.image.specs.Storing.{pricesOk}
 use Rattle.image.specs.Same.{Same}

@@ -18,9 +18,9 @@ use Rattle.book.specs.declared.record.Book.{Book}
 use Rattle.book.specs.declared.record.Settings.{Settings}
 use Rattle.book.specs.Record.{marketsOf, placeOf, ringSize, isAccepted}
 use Rattle.book.specs.Validity.{thresholdOk, valid}
-use Rattle.book.specs.Setting.{thresholdVerdict, limitsVerdict, withSettings, setThreshold, setLimits}
+use Rattle.book_calls.specs.Setting.{thresholdVerdict, limitsVerdict, withSettings, setThreshold, setLimits}
 use Rattle.book.proofs.Validities.{valid-is}
-use Rattle.book.proofs.Kept.{setting-valid}
+use Rattle.book_calls.proofs.Kept.{setting-valid}
 use Rattle.publishing.specs.declared.Terms.{Terms}
 use Rattle.publishing.specs.Entry.{Entry}
 use Rattle.publishing.specs.Published.{tableOf, countOf}
@@ -40,9 +40,9 @@ use Rattle.ledger.proofs.Reports.{mark-agrees, report-agrees}
 use Rattle.ledger.proofs.Restarts.{restart-alike}
 use Rattle.ledger.proofs.Begins.{begins}
 use Rattle.ledger.specs.Demand.{settingsOf, opening, Answers-alike, Demand-3}
-use Rattle.book.specs.Opening as Opening
-use Rattle.book.specs.Opening.{fresh}
-use Rattle.book.proofs.Kept.{opened-is}
+use Rattle.book_calls.specs.Opening as Opening
+use Rattle.book_calls.specs.Opening.{fresh}
+use Rattle.book_calls.proofs.Kept.{opened-is}
 
 -- what a call comes to: it is answered alike, and what is then held agrees
 abbrev pub Alike : Step Held → Step Ledger → Type 0

@@ -10,8 +10,8 @@ use Rattle.laws.specs.Base.{pick}
 use Rattle.pricing.specs.Verdict.{accepted}
 use Rattle.book.specs.declared.record.Book.{Book}
 use Rattle.book.specs.Record.{ringSize, isAccepted}
-use Rattle.book.specs.Setting as Setting
-use Rattle.book.specs.Report as Report
+use Rattle.book_calls.specs.Setting as Setting
+use Rattle.book_calls.specs.Report as Report
 use Rattle.image.specs.Storing as Storing
 use Rattle.image.specs.Loading as Loading
 use Rattle.publishing.specs.Entry.{Entry}

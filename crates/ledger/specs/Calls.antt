@@ -6,7 +6,7 @@ use Prim.Native.Nat.{ℕ}
 use lib.IntN.{ℤ}
 use Rattle.pricing.specs.Verdict.{Verdict}
 use Rattle.book.specs.Record.{isAccepted}
-use Rattle.book.specs.Report.{Numbers, nothing}
+use Rattle.book_calls.specs.Report.{Numbers, nothing}
 use Rattle.publishing.specs.Entry.{Entry}
 
 -- a call of L with its arguments, any lengths and any numbers: an entry with the ring that it is lent, its number and the

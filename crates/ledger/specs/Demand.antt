@@ -14,8 +14,8 @@ use lib.ListN.{getD}
 use Rattle.laws.specs.Lists.{tabulate}
 use Rattle.book.specs.declared.record.Settings.{Settings}
 use Rattle.book.specs.Record.{placeOf}
-use Rattle.book.specs.Opening as Opening
-use Rattle.book.specs.Report as Report
+use Rattle.book_calls.specs.Opening as Opening
+use Rattle.book_calls.specs.Report as Report
 use Rattle.ledger.specs.Calls.{Call, Answer, answers, after}
 use Rattle.ledger.specs.Ledger as Ledger
 use Rattle.ledger.specs.Book as Book

@@ -24,8 +24,8 @@ use Rattle.pricing.specs.Verdict.{Verdict, accepted, refused}
 use Rattle.book.specs.declared.record.Settings.{Settings}
 use Rattle.book.specs.Record.{marketsOf, ringSize, isAccepted}
 use Rattle.book.specs.Validity.{usedPlace}
-use Rattle.book.specs.Setting.{thresholdVerdict, limitsVerdict}
-use Rattle.book.specs.Report.{Numbers, nothing, reportVerdict}
+use Rattle.book_calls.specs.Setting.{thresholdVerdict, limitsVerdict}
+use Rattle.book_calls.specs.Report.{Numbers, nothing, reportVerdict}
 use Rattle.publishing.specs.declared.Terms.{Terms}
 use Rattle.publishing.specs.Entry.{Offer, Entry}
 use Rattle.publishing.specs.Published.{tableOf, countOf}

@@ -1,5 +1,5 @@
 // Reads a list of calls from standard input and writes the answers: this file only moves bytes, `replay` says what they are.
-use book::opening::ring_size;
+use book::record::ring_size;
 use codec::get_u8;
 use codec::get_u16;
 use libc::STDIN_FILENO;

@@ -12,8 +12,8 @@ use lib.ListN.{length, drop}
 use lib.Seq.{sets}
 use Rattle.laws.specs.Base.{pick}
 use Rattle.book.specs.declared.record.Book.{Book}
-use Rattle.book.specs.Setting.{setThreshold, setLimits}
-use Rattle.book.specs.Report.{reportOf}
+use Rattle.book_calls.specs.Setting.{setThreshold, setLimits}
+use Rattle.book_calls.specs.Report.{reportOf}
 use Rattle.image.specs.Storing as Storing
 use Rattle.records.specs.Reading.{kindAt, lengthsAt, entrySize, signedAt, factorsAt, callSize, answerSize, goes}
 use Rattle.records.specs.Writing.{plainRecord, reportRecord}

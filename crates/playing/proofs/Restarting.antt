@@ -13,11 +13,11 @@ use Rattle.book.specs.declared.record.Book.{Book}
 use Rattle.book.specs.declared.record.Refusal.{Refusal}
 use Rattle.book.specs.declared.record.Answer.{Answer}
 use Rattle.book.specs.declared.record.Answer.the-variants.{Accepted, Refused}
-use Rattle.book.specs.declared.setting.Changed.{Changed}
-use Rattle.book.specs.declared.report.Reported.{Reported}
+use Rattle.book_calls.specs.declared.setting.Changed.{Changed}
+use Rattle.book_calls.specs.declared.report.Reported.{Reported}
 use Rattle.book.specs.Record.{verdict, verdictOf, isAccepted}
-use Rattle.book.specs.Setting as Setting
-use Rattle.book.specs.Report as Report
+use Rattle.book_calls.specs.Setting as Setting
+use Rattle.book_calls.specs.Report as Report
 use Rattle.book.proofs.Ways.{refusal-is}
 use Rattle.image.specs.declared.storing.Image.{Image}
 use Rattle.image.specs.declared.storing.Image.the-variants as image

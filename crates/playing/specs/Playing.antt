@@ -13,8 +13,8 @@ use Rattle.laws.specs.Bytes.{numberAt}
 use Rattle.pricing.specs.Verdict.{Verdict, accepted}
 use Rattle.book.specs.declared.record.Book.{Book}
 use Rattle.book.specs.Record.{isAccepted}
-use Rattle.book.specs.Setting as Setting
-use Rattle.book.specs.Report as Report
+use Rattle.book_calls.specs.Setting as Setting
+use Rattle.book_calls.specs.Report as Report
 use Rattle.entries.specs.Entering as Entering
 use Rattle.image.specs.Storing as Storing
 use Rattle.image.specs.Loading as Loading

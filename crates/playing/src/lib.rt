@@ -1,9 +1,9 @@
 // One call of a replay: it reads its arguments, calls the book's own operation and writes the answer.
 use book::record::Answer;
 use book::record::Book;
-use book::report::report;
-use book::setting::set_limits;
-use book::setting::set_threshold;
+use book_calls::report::report;
+use book_calls::setting::set_limits;
+use book_calls::setting::set_threshold;
 use codec::get;
 use codec::get_u8;
 use codec::get_u16;
@@ -29,8 +29,8 @@ ghost use lib.ListN.{length, take, drop};
 ghost use lib.Seq.{sets};
 ghost use Rattle.laws.specs.Base.{pick};
 ghost use Rattle.book.specs.Record.{isAccepted};
-ghost use Rattle.book.specs.Setting.{setThreshold, setLimits};
-ghost use Rattle.book.specs.Report.{reportOf};
+ghost use Rattle.book_calls.specs.Setting.{setThreshold, setLimits};
+ghost use Rattle.book_calls.specs.Report.{reportOf};
 ghost use Rattle.entries.specs.Entering as Entering;
 ghost use Rattle.image.specs.Storing as Storing;
 ghost use Rattle.image.specs.Loading as Loading;

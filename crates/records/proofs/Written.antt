@@ -15,7 +15,7 @@ use Rattle.laws.proofs.Fields.{part-then}
 use Rattle.laws.proofs.Joined.{places-whole}
 use Rattle.laws.proofs.Words.{length-words}
 use Rattle.pricing.specs.Verdict.{Verdict}
-use Rattle.book.specs.Report.{Numbers}
+use Rattle.book_calls.specs.Report.{Numbers}
 use Rattle.records.specs.Writing.{headOf, entryRecord, valuesOf, reportRecord}
 
 -- four numbers of these widths

@@ -7,7 +7,7 @@ use mir.Syntax.{w64}
 use mir.Val.{ofZ}
 use Rattle.laws.specs.Bytes.{le, words}
 use Rattle.pricing.specs.Verdict.{Verdict}
-use Rattle.book.specs.Report.{Numbers}
+use Rattle.book_calls.specs.Report.{Numbers}
 
 -- an answer begins with its length, four bytes, the call's kind, two, and number and place, four each, both 0 for an acceptance
 unfoldable pub headOf : ℕ → ℕ → Verdict → List ℕ

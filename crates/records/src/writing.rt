@@ -2,7 +2,7 @@
 use book::record::Answer;
 use book::record::number_in;
 use book::record::place_in;
-use book::report::Reading;
+use book_calls::report::Reading;
 use codec::bits64;
 use codec::put;
 use codec::put_words;
@@ -13,7 +13,7 @@ ghost use lib.ListN.{length};
 ghost use lib.Seq.{sets};
 ghost use Rattle.laws.specs.Bytes.{words};
 ghost use Rattle.book.specs.Record.{verdict};
-ghost use Rattle.book.specs.Report.{numbers};
+ghost use Rattle.book_calls.specs.Report.{numbers};
 ghost use Rattle.entries.specs.Entering as Entering;
 ghost use Rattle.records.specs.Writing.{headOf, entryRecord, reportRecord};
 

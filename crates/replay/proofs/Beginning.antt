@@ -11,9 +11,9 @@ use lib.Seq.{sets}
 use Rattle.laws.specs.Bytes.{numberAt}
 use Rattle.laws.proofs.Tests.{and-left}
 use Rattle.book.specs.declared.record.Settings.{Settings}
-use Rattle.book.specs.declared.opening.Opened.{Opened}
+use Rattle.book_calls.specs.declared.opening.Opened.{Opened}
 use Rattle.book.specs.Record.{ringSize, verdict}
-use Rattle.book.specs.Opening as Opening
+use Rattle.book_calls.specs.Opening as Opening
 use Rattle.records.specs.Reading.{settingsIn, opens}
 use Rattle.records.specs.Writing.{plainRecord}
 use Rattle.playing.specs.Playing.{State, stateOf}

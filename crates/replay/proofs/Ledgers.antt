@@ -23,8 +23,8 @@ use Rattle.entries.specs.Checking.{lengthsOk, entryVerdict}
 use Rattle.entries.specs.Entering.{enterVerdict}
 use Rattle.book.proofs.Passes.{passes}
 use Rattle.ledger.proofs.Checks.{entered-accepted, entered-refused, enter-passed}
-use Rattle.book.specs.Setting as Setting
-use Rattle.book.specs.Report as Report
+use Rattle.book_calls.specs.Setting as Setting
+use Rattle.book_calls.specs.Report as Report
 use Rattle.entries.specs.Entering as Entering
 use Rattle.head.specs.Layout.{lengthOf, imageOf}
 use Rattle.image.specs.Storing as Storing

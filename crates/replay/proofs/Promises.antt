@@ -19,9 +19,9 @@ use Rattle.book.specs.declared.record.Settings.{Settings}
 use Rattle.pricing.specs.Holding.{limitsOk}
 use Rattle.book.specs.Record.{ringSize, isAccepted}
 use Rattle.book.specs.Validity.{shapeOk, parentsOk, thresholdOk}
-use Rattle.book.specs.Opening as Opening
-use Rattle.book.specs.Opening.{openVerdict}
-use Rattle.book.proofs.Kept.{opened-is, opened-not}
+use Rattle.book_calls.specs.Opening as Opening
+use Rattle.book_calls.specs.Opening.{openVerdict}
+use Rattle.book_calls.proofs.Kept.{opened-is, opened-not}
 use Rattle.ledger.specs.Calls.{Call, Answer, Step, answers}
 use Rattle.ledger.specs.Ledger as Ledger
 use Rattle.ledger.proofs.Agrees.{Agree}

@@ -15,10 +15,10 @@ use Rattle.pricing.specs.Verdict.{Verdict, refused}
 use Rattle.book.specs.declared.record.Book.{Book}
 use Rattle.book.specs.Record.{closed, isAccepted}
 use Rattle.book.specs.Validity.{valid}
-use Rattle.book.specs.Setting as Setting
-use Rattle.book.specs.Report as Report
+use Rattle.book_calls.specs.Setting as Setting
+use Rattle.book_calls.specs.Report as Report
 use Rattle.publishing.specs.Entry.{Entry}
-use Rattle.book.proofs.Kept.{closed-invalid}
+use Rattle.book_calls.proofs.Kept.{closed-invalid}
 use Rattle.entries.specs.Entering as Entering
 use Rattle.image.specs.Storing as Storing
 use Rattle.ledger.specs.Calls as Calls

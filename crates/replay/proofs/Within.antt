@@ -10,8 +10,8 @@ use lib.ListN.{length}
 use lib.Seq.{sets, length-sets}
 use Rattle.laws.proofs.Tests.{by-test, and-right}
 use Rattle.records.specs.Reading.{kindAt, answerSize, opens}
-use Rattle.book.specs.Setting as Setting
-use Rattle.book.specs.Report as Report
+use Rattle.book_calls.specs.Setting as Setting
+use Rattle.book_calls.specs.Report as Report
 use Rattle.image.specs.Storing as Storing
 use Rattle.records.specs.Writing.{plainRecord, reportRecord}
 use Rattle.playing.specs.Playing.{State, roomOf, playable, step, thresholdIn, capIn, floorIn, regionIn, marketIn, threshold, limits, report, enteredAt, enteredRecord, entry, restartVerdict, restart}

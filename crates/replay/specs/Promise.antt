@@ -10,7 +10,7 @@ use lib.ListN.{length}
 use Rattle.laws.specs.Base.{pick}
 use Rattle.pricing.specs.Verdict.{Verdict, refused}
 use Rattle.book.specs.Record.{isAccepted}
-use Rattle.book.specs.Opening.{openVerdict}
+use Rattle.book_calls.specs.Opening.{openVerdict}
 use Rattle.ledger.specs.Calls.{Call, entry, threshold, limits, report, restart, Answer, entered, set, reported, restarted, answers, refusedAnswer}
 use Rattle.ledger.specs.Ledger as Ledger
 use Rattle.records.specs.Reading.{openingSize, settingsIn, callSize, answerSize, goes}

@@ -10,7 +10,7 @@ use Rattle.laws.specs.Base.{pick}
 use Rattle.laws.specs.Bytes.{numberAt}
 use Rattle.book.specs.declared.record.Settings.{Settings}
 use Rattle.book.specs.Record.{ringSize}
-use Rattle.book.specs.Opening as Opening
+use Rattle.book_calls.specs.Opening as Opening
 use Rattle.records.specs.Reading.{openingSize, settingsIn, opens}
 use Rattle.records.specs.Writing.{plainRecord}
 use Rattle.playing.specs.Playing.{State, playable, step, swaps}

@@ -1,7 +1,7 @@
 // A list of calls played from bytes on the book's own operations, each answer written as bytes. docs/RECORDS.md has the layout.
-use book::opening::open;
-use book::opening::ring_size;
 use book::record::Book;
+use book::record::ring_size;
+use book_calls::opening::open;
 use codec::get_u8;
 use codec::get_u16;
 use playing::Played;

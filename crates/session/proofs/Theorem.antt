@@ -11,9 +11,9 @@ use Rattle.laws.specs.Base.{pick}
 use Rattle.laws.proofs.Tests.{by-test, never}
 use Rattle.pricing.specs.Verdict.{accepted}
 use Rattle.book.specs.Record.{isAccepted}
-use Rattle.book.specs.Opening as Opening
-use Rattle.book.specs.Opening.{opened}
-use Rattle.book.specs.Setting as Setting
+use Rattle.book_calls.specs.Opening as Opening
+use Rattle.book_calls.specs.Opening.{opened}
+use Rattle.book_calls.specs.Setting as Setting
 use Rattle.image.specs.Storing as Storing
 use Rattle.image.specs.Loading as Loading
 use Rattle.image.specs.Loading.{loaded, loadVerdict}

@@ -16,9 +16,9 @@ use lib.Dec.{eqb}
 use lib.IntN.{ℤ}
 use lib.ListN.{take}
 use Rattle.laws.specs.Base.{pick}
-use Rattle.book.specs.Opening.{opened}
-use Rattle.book.specs.Setting.{setThreshold, setLimits}
-use Rattle.book.specs.Report.{reportOf}
+use Rattle.book_calls.specs.Opening.{opened}
+use Rattle.book_calls.specs.Setting.{setThreshold, setLimits}
+use Rattle.book_calls.specs.Report.{reportOf}
 use Rattle.image.specs.Storing.{stored}
 use Rattle.image.specs.Loading.{loaded}
 use Rattle.publishing.specs.Entry.{Entry}

@@ -2,7 +2,7 @@
 use amount::amount_text;
 use book::record::Answer;
 use book::record::Refusal;
-use book::report::Reading;
+use book_calls::report::Reading;
 use codec::bits32;
 use entries::Publication;
 

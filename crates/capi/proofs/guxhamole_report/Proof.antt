@@ -1,6 +1,6 @@
 -- `capi::guxhamole_report` meets its contract: it is the report. Assumes nothing.
 use mathlib.Core.Path.{ap}
-use Rattle.book.specs.Report.{Outcome}
+use Rattle.book_calls.specs.Report.{Outcome}
 use Rattle.face.proofs.Answers.{seen-by}
 use borrow.Author.Needs.{needs}
 use Rattle.capi.proofs.guxhamole_report.Statement.{statement}

@@ -3,8 +3,8 @@ use mathlib.Core.Path.{_≡_, sym, ap}
 use mir.Syntax.{w64}
 use mir.Val.{SFits}
 use mir.Facts.{toZ-ofZ}
-use Rattle.book.specs.declared.report.Reading.{Reading}
-use Rattle.book.specs.Report.{numbers}
+use Rattle.book_calls.specs.declared.report.Reading.{Reading}
+use Rattle.book_calls.specs.Report.{numbers}
 use Rattle.face.specs.Face.{seenBy}
 use borrow.Author.Needs.{needs}
 use Rattle.face.proofs.seen_of.Statement.{statement}

@@ -3,7 +3,7 @@ use mathlib.Core.Path.{ap₂, _∙_}
 use mir.Syntax.{w32}
 use mir.Val.{SFits}
 use mir.Facts.{toZ-ofZ}
-use Rattle.book.specs.Setting.{setLimits}
+use Rattle.book_calls.specs.Setting.{setLimits}
 use Rattle.playing.proofs.Restarting.{set-told}
 use borrow.Author.Needs.{needs}
 use Rattle.playing.proofs.play_limits.Statement.{statement}

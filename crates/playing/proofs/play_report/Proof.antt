@@ -1,6 +1,6 @@
 -- `playing::play_report` meets its contract. Assumes nothing.
 use mathlib.Core.Path.{ap₂, _∙_}
-use Rattle.book.specs.Report.{reported}
+use Rattle.book_calls.specs.Report.{reported}
 use Rattle.playing.proofs.Restarting.{report-told}
 use borrow.Author.Needs.{needs}
 use Rattle.playing.proofs.play_report.Statement.{statement}

@@ -3,7 +3,7 @@ use mathlib.Core.Path.{ap, _∙_}
 use mir.Syntax.{w64}
 use mir.Val.{SFits, toZ}
 use mir.Facts.{toZ-ofZ}
-use Rattle.book.specs.Setting.{setThreshold}
+use Rattle.book_calls.specs.Setting.{setThreshold}
 use Rattle.playing.proofs.Restarting.{set-told}
 use borrow.Author.Needs.{needs}
 use Rattle.playing.proofs.play_threshold.Statement.{statement}

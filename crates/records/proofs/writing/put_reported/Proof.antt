@@ -6,8 +6,8 @@ use lib.Seq.{sets}
 use mir.Syntax.{w64}
 use mir.Val.{SFits}
 use mir.Facts.{toZ-ofZ}
-use Rattle.book.specs.declared.report.Reading.{Reading}
-use Rattle.book.specs.Report.{numbers}
+use Rattle.book_calls.specs.declared.report.Reading.{Reading}
+use Rattle.book_calls.specs.Report.{numbers}
 use Rattle.records.specs.Writing.{reportRecord}
 use borrow.Author.Needs.{needs}
 use Rattle.records.proofs.writing.put_reported.Statement.{statement}

@@ -4,10 +4,10 @@ use lib.IntN.{ℤ}
 use Rattle.laws.specs.Base.{pick}
 use Rattle.pricing.specs.Verdict.{Verdict, accepted, refused}
 use Rattle.pricing.specs.Holding.{limitsOk}
 use Rattle.book.specs.declared.record.Book.{Book}
-use Rattle.book.specs.declared.setting.Changed.{Changed}
+use Rattle.book_calls.specs.declared.setting.Changed.{Changed}
 use Rattle.book.specs.Record.{verdict, isAccepted}
 use Rattle.book.specs.Validity.{thresholdOk, valid}
 
 -- "Settings: 10; 18 or 19": what follows 10
 unfoldable pub thresholdVerdict : ℤ → Verdict

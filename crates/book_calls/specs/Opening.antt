@@ -8,11 +8,11 @@ use lib.ListN.{length, replicate}
 use Rattle.laws.specs.Base.{pick}
 use Rattle.pricing.specs.Verdict.{Verdict, accepted, refused}
 use Rattle.pricing.specs.Holding.{limitsOk}
 use Rattle.book.specs.declared.record.Book.{Book}
 use Rattle.book.specs.declared.record.Settings.{Settings}
-use Rattle.book.specs.declared.opening.Opened.{Opened}
+use Rattle.book_calls.specs.declared.opening.Opened.{Opened}
 use Rattle.book.specs.Record.{closed, ringSize, verdict, isAccepted}
 use Rattle.book.specs.Validity.{shapeOk, parentsOk, thresholdOk}
 
 -- "Open: 20 a setting; 11 ring length; 18 threshold; 19 cap or floor"
 unfoldable pub openVerdict : Settings → ℕ → Verdict

@@ -6,12 +6,12 @@ use lib.IntN.{ℤ, pos}
 use lib.ListN.{getD}
 use Rattle.laws.specs.Base.{pick}
 use Rattle.pricing.specs.Verdict.{Verdict, accepted, refused}
 use Rattle.book.specs.declared.record.Book.{Book}
-use Rattle.book.specs.declared.report.Reading.{Reading}
-use Rattle.book.specs.declared.report.Reading.the-variants.{Values, Refused}
-use Rattle.book.specs.declared.report.Reported.{Reported}
+use Rattle.book_calls.specs.declared.report.Reading.{Reading}
+use Rattle.book_calls.specs.declared.report.Reading.the-variants.{Values, Refused}
+use Rattle.book_calls.specs.declared.report.Reported.{Reported}
 use Rattle.book.specs.Record.{placeOf, verdictOf, isAccepted}
 use Rattle.book.specs.Validity.{valid}
 
 -- "Report: 10; 21 region or market": what follows 10
 unfoldable pub reportVerdict : ℕ → ℕ → ℕ → ℕ → Verdict

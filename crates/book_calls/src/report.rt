@@ -1,9 +1,9 @@
 // The report of a market.
-use crate::record::Book;
-use crate::record::Refusal;
-use crate::validity::valid;
+use book::record::Book;
+use book::record::Refusal;
+use book::validity::valid;
 ghost use mathlib.Core.Path.{_≡_};
-ghost use Rattle.book.specs.Report.{outcome, reported};
+ghost use Rattle.book_calls.specs.Report.{outcome, reported};
 
 pub enum Reading {
     Values {

@@ -1,15 +1,15 @@
--- `book::setting::set_limits` meets its contract. Assumes nothing.
+-- `book_calls::setting::set_limits` meets its contract. Assumes nothing.
 use mathlib.Core.Path.{_≡_, refl, sym, _∙_}
 use mathlib.Core.Bool.{true}
 use mir.Facts.{toZ-ofZ}
 use borrow.Author.Tests.{not-true, not-false}
 use Rattle.pricing.specs.Holding.{limitsOk}
 use Rattle.book.specs.Validity.{valid}
-use Rattle.book.specs.Setting.{setLimits, limitsVerdict}
-use Rattle.book.proofs.Ways.{limits-0}
+use Rattle.book_calls.specs.Setting.{setLimits, limitsVerdict}
+use Rattle.book_calls.proofs.Ways.{limits-0}
 use borrow.Author.Needs.{needs}
-use Rattle.book.proofs.setting.set_limits.Statement.{statement}
-use Rattle.book.proofs.setting.set_limits.Tie as tie
+use Rattle.book_calls.proofs.setting.set_limits.Statement.{statement}
+use Rattle.book_calls.proofs.setting.set_limits.Tie as tie
 
 limits-is : (c : tie.After-limits-ok) → let a = c .before .before .before .args in c .limits-ok .result ≡ limitsOk (a .cap) (a .floor)
 limits-is c = let s = c .before .before .before in rw (toZ-ofZ (s .fits .cap), toZ-ofZ (s .fits .floor)) at (c .limits-ok .ensures)

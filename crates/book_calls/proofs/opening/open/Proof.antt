@@ -1,8 +1,8 @@
--- `book::opening::open` meets its contract. Assumes nothing.
-use Rattle.book.proofs.Ways.{opened-refused, opened-accepted}
+-- `book_calls::opening::open` meets its contract. Assumes nothing.
+use Rattle.book_calls.proofs.Ways.{opened-refused, opened-accepted}
 use borrow.Author.Needs.{needs}
-use Rattle.book.proofs.opening.open.Statement.{statement}
-use Rattle.book.proofs.opening.open.Tie as tie
+use Rattle.book_calls.proofs.opening.open.Statement.{statement}
+use Rattle.book_calls.proofs.opening.open.Tie as tie
 
 open-verdict-requires : tie.Need-open-verdict-requires
 open-verdict-requires c κs = search needs

@@ -13,17 +13,17 @@ use Rattle.laws.specs.Base.{pick}
 use Rattle.laws.proofs.Tests.{and-left, and-right, by-test, never}
 use Rattle.pricing.specs.Verdict.{Verdict, accepted, refused}
 use Rattle.pricing.specs.Holding.{limitsOk}
 use Rattle.book.specs.declared.record.Book.{Book}
 use Rattle.book.specs.declared.record.Settings.{Settings}
 use Rattle.book.specs.Record.{closed, ringSize, isAccepted}
 use Rattle.book.specs.Validity.{parentOk, shapeOk, parentsOk, thresholdOk, valid}
-use Rattle.book.specs.Opening.{openVerdict, fresh, opened}
-use Rattle.book.specs.Setting.{thresholdVerdict, limitsVerdict, withSettings, Outcome, changed, setThreshold, setLimits}
-use Rattle.book.specs.Report.{reportOf, reported}
+use Rattle.book_calls.specs.Opening.{openVerdict, fresh, opened}
+use Rattle.book_calls.specs.Setting.{thresholdVerdict, limitsVerdict, withSettings, Outcome, changed, setThreshold, setLimits}
+use Rattle.book_calls.specs.Report.{reportOf, reported}
 use Rattle.laws.proofs.Lists.{all-at}
 use Rattle.book.proofs.Validities.{parts, shape-is, parent-is, Valid, is-valid}
-use Rattle.book.proofs.Ways.{settingsOk, ringOk}
+use Rattle.book_calls.proofs.Ways.{settingsOk, ringOk}
 use Rattle.book.proofs.Passes.{passes-not}
 
 -- ---- rule 10 and the closed book
 pub closed-invalid : valid closed ≡ false

@@ -1,4 +1,4 @@
--- `book::opening::open_verdict` meets its contract. Assumes nothing.
+-- `book_calls::opening::open_verdict` meets its contract. Assumes nothing.
 use mathlib.Core.Path.{_≡_, sym, _∙_}
 use mathlib.Core.Bool.{true, _&&_}
 use mir.Syntax.{w32, w64}
@@ -6,11 +6,11 @@ use mir.Val.{SFits}
 use mir.Facts.{toZ-ofZ}
 use borrow.Author.Tests.{eq-eqb, ne-eqb, not-true, not-false}
 use Rattle.pricing.specs.Holding.{limitsOk}
 use Rattle.book.specs.Validity.{thresholdOk}
-use Rattle.book.proofs.Ways.{settingsOk, ringOk, open-20, open-11, open-18, open-19, open-0}
+use Rattle.book_calls.proofs.Ways.{settingsOk, ringOk, open-20, open-11, open-18, open-19, open-0}
 use borrow.Author.Needs.{needs, sfits-of}
-use Rattle.book.proofs.opening.open_verdict.Statement.{statement}
-use Rattle.book.proofs.opening.open_verdict.Tie as tie
+use Rattle.book_calls.proofs.opening.open_verdict.Statement.{statement}
+use Rattle.book_calls.proofs.opening.open_verdict.Tie as tie
 
 -- what each test says of the settings and the ring's length
 settings-is : (c : tie.After-parents-ok) → (c .before .before .shape-ok .result && c .parents-ok .result) ≡ settingsOk (c .before .before .before .before .args .settings)

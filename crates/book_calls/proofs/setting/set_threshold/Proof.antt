@@ -1,14 +1,14 @@
--- `book::setting::set_threshold` meets its contract. Assumes nothing.
+-- `book_calls::setting::set_threshold` meets its contract. Assumes nothing.
 use mathlib.Core.Path.{_≡_, refl, sym, _∙_}
 use mathlib.Core.Bool.{true}
 use mir.Facts.{toZ-ofZ}
 use borrow.Author.Tests.{not-true, not-false}
 use Rattle.book.specs.Validity.{valid, thresholdOk}
-use Rattle.book.specs.Setting.{setThreshold, thresholdVerdict}
-use Rattle.book.proofs.Ways.{threshold-0}
+use Rattle.book_calls.specs.Setting.{setThreshold, thresholdVerdict}
+use Rattle.book_calls.proofs.Ways.{threshold-0}
 use borrow.Author.Needs.{needs}
-use Rattle.book.proofs.setting.set_threshold.Statement.{statement}
-use Rattle.book.proofs.setting.set_threshold.Tie as tie
+use Rattle.book_calls.proofs.setting.set_threshold.Statement.{statement}
+use Rattle.book_calls.proofs.setting.set_threshold.Tie as tie
 
 threshold-is : (c : tie.After-threshold-ok) → c .threshold-ok .result ≡ thresholdOk (c .before .before .before .args .threshold)
 threshold-is c = rw (toZ-ofZ (c .before .before .before .fits .threshold)) at (c .threshold-ok .ensures)

@@ -1,4 +1,4 @@
--- `book::opening::zero` meets its contract. The loop's invariant: zeros up to `i`, then the ring as it was. Assumes nothing.
+-- `book_calls::opening::zero` meets its contract. The loop's invariant: zeros up to `i`, then the ring as it was. Assumes nothing.
 use mathlib.Core.Path.{_≡_, refl, _∙_}
 use Prim.Native.Nat.{_≤_, _-_}
 use native.Mathlib.Omega.{arith}
@@ -8,8 +8,8 @@ use mathlib.Core.List.{_++_}
 use Rattle.laws.specs.Lists.{tabulate}
 use Rattle.laws.proofs.Lists.{tab-none, tab-step, tab-done}
 use Rattle.laws.proofs.Lists.{tabulate-const}
-use Rattle.book.proofs.opening.zero.Statement.{statement}
-use Rattle.book.proofs.opening.zero.Tie as tie
+use Rattle.book_calls.proofs.opening.zero.Statement.{statement}
+use Rattle.book_calls.proofs.opening.zero.Tie as tie
 
 abbrev Inv-loop : tie.InvT-loop
 Inv-loop ring₀ i₀ ring i = (i ≤ length ring₀) × (length ring ≡ length ring₀) × (ring ≡ tabulate i (λ _. pos 0) ++ drop i ring₀)

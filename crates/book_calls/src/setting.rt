@@ -1,11 +1,11 @@
 // The threshold and limit settings of a running book: they act from the next entry.
-use crate::record::Answer;
-use crate::record::Book;
-use crate::record::Refusal;
-use crate::validity::threshold_ok;
-use crate::validity::valid;
+use book::record::Answer;
+use book::record::Book;
+use book::record::Refusal;
+use book::validity::threshold_ok;
+use book::validity::valid;
 ghost use mathlib.Core.Path.{_≡_};
-ghost use Rattle.book.specs.Setting.{outcome, setThreshold, setLimits};
+ghost use Rattle.book_calls.specs.Setting.{outcome, setThreshold, setLimits};
 
 pub struct Changed {
     pub book: Book,

@@ -1,4 +1,4 @@
--- `book::report::report` meets its contract. Assumes nothing.
+-- `book_calls::report::report` meets its contract. Assumes nothing.
 use mathlib.Core.Path.{_≡_, refl, sym, _∙_}
 use mathlib.Core.Bool.{true}
 use Prim.Native.Nat.{_<_}
@@ -11,13 +11,13 @@ use lib.ListN.{getD}
 use borrow.Author.Tests.{ltb-true, leb-true, not-true, not-false}
 use lib.Dec.{leb, ltb}
 use Rattle.laws.proofs.Tests.{and-left, and-right}
 use Rattle.book.specs.Record.{placeOf}
 use Rattle.book.specs.Validity.{valid}
-use Rattle.book.specs.Report.{reportOf, reportVerdict}
+use Rattle.book_calls.specs.Report.{reportOf, reportVerdict}
 use Rattle.book.proofs.Validities.{valid-is, place-below}
 use borrow.Author.Needs.{needs}
-use Rattle.book.proofs.report.report.Statement.{statement}
-use Rattle.book.proofs.report.report.Tie as tie
+use Rattle.book_calls.proofs.report.report.Statement.{statement}
+use Rattle.book_calls.proofs.report.report.Tie as tie
 
 ok : (c : tie.Else1) → valid (c .before .before .args .t1) ≡ true
 ok c = sym (c .before .valid .ensures) ∙ not-false _ (c .if1 .left)

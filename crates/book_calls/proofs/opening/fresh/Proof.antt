@@ -1,11 +1,11 @@
--- `book::opening::fresh` meets its contract: every field is the definition's. Assumes nothing.
+-- `book_calls::opening::fresh` meets its contract: every field is the definition's. Assumes nothing.
 use borrow.Author.Needs.{needs}
 use mathlib.Core.Path.{refl}
 use mir.Syntax.{w32, w64}
 use mir.Val.{SFits}
 use mir.Facts.{toZ-ofZ}
-use Rattle.book.proofs.opening.fresh.Statement.{statement}
-use Rattle.book.proofs.opening.fresh.Tie as tie
+use Rattle.book_calls.proofs.opening.fresh.Statement.{statement}
+use Rattle.book_calls.proofs.opening.fresh.Tie as tie
 
 returns : tie.Need-returns
 returns c =

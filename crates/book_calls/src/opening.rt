@@ -1,28 +1,22 @@
 // Opening a book.
-use crate::record::Answer;
-use crate::record::Book;
-use crate::record::Refusal;
-use crate::record::Settings;
-use crate::record::closed;
-use crate::validity::parents_ok;
-use crate::validity::shape_ok;
-use crate::validity::threshold_ok;
+use book::record::Answer;
+use book::record::Book;
+use book::record::Refusal;
+use book::record::Settings;
+use book::record::closed;
+use book::record::ring_size;
+use book::validity::parents_ok;
+use book::validity::shape_ok;
+use book::validity::threshold_ok;
 ghost use mathlib.Core.Path.{_≡_};
 ghost use lib.IntN.{pos};
 ghost use lib.ListN.{length, replicate};
-ghost use Rattle.book.specs.Record.{ringSize, verdict};
-ghost use Rattle.book.specs.Opening.{openVerdict, fresh, outcome, opened};
+ghost use Rattle.book.specs.Record.{verdict};
+ghost use Rattle.book_calls.specs.Opening.{openVerdict, fresh, outcome, opened};
 
 pub struct Opened {
     pub book: Book,
     pub answer: Answer,
-}
-
-// R × M × W, for any numbers.
-pub fn ring_size(regions: u8, services: u8, window: u16) -> usize
-    ensures { λ r. ⌜ r ≡ ringSize regions services window ⌝ }
-{
-    regions as usize * (services as usize + 1) * window as usize
 }
 
 fn open_verdict(settings: Settings, ring: usize) -> Answer

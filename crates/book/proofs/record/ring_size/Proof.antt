@@ -1,4 +1,4 @@
--- `book::opening::ring_size` meets its contract. Assumes nothing.
+-- `book::record::ring_size` meets its contract. Assumes nothing.
 use mathlib.Core.Path.{refl}
 use Prim.Native.Nat.{_+_, _*_, _≤_}
 use native.Mathlib.Nat.{mul-le-mul}
@@ -6,8 +6,8 @@ use native.Mathlib.Omega.{arith}
 use mir.Syntax.{w8, w16}
 use mir.Val.{Fits}
 use borrow.Author.Needs.{needs}
-use Rattle.book.proofs.opening.ring_size.Statement.{statement}
-use Rattle.book.proofs.opening.ring_size.Tie as tie
+use Rattle.book.proofs.record.ring_size.Statement.{statement}
+use Rattle.book.proofs.record.ring_size.Tie as tie
 
 -- numbers of these widths have products that fit
 sizes : (c : tie.Start) → let a = c .args in (a .regions * (a .services + 1) ≤ 65280) × (a .regions * (a .services + 1) * a .window ≤ 4278124800)
