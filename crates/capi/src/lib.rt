@@ -189,7 +189,8 @@ pub extern "C" fn guxhamole_interval_write(
     factors: &[u32],
     buffer: &mut [u8],
 ) -> Written
-    ensures { λ r. ⌜ (let v = intervalOf entry kind (now (prices .entry)) (now (marks .entry)) (now (flows .entry)) (now (factors .entry)) in
+    ensures { λ r. ⌜ (let v = intervalOf entry kind (now (prices .entry)) (now (marks .entry)) (now (flows .entry))
+        (now (factors .entry)) in
         writeOf r book (now (buffer .exit)) ≡ writeInterval book v (now (buffer .entry))) ⌝ }
 {
     let written = write_interval(book, entry, kind, prices, marks, flows, factors, buffer);

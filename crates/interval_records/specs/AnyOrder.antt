@@ -16,9 +16,11 @@ stray regions markets bytes first k =
     not (ltb (regionAt markets bytes first k) regions)
     || anyBelow k (λ j. eqb (regionAt markets bytes first j) (regionAt markets bytes first k))
 
+-- of one region's record 40, 41, then 42
 unfoldable pub regionVerdict : ℕ → ℕ → List ℕ → ℕ → ℕ → Verdict
 regionVerdict regions markets bytes first k =
-    pick (not (isAccepted (dueVerdict 17 markets bytes (recordPlace markets first k)))) (dueVerdict 17 markets bytes (recordPlace markets first k))
+    let due = dueVerdict 17 markets bytes (recordPlace markets first k) in
+    pick (not (isAccepted due)) due
     (pick (stray regions markets bytes first k) (refused 42)
     accepted)
 

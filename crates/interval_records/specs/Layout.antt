@@ -55,7 +55,8 @@ rowOf markets prices r = tabulate markets (λ m. getD prices (r * markets + m) (
 
 unfoldable pub regionRecord : ℕ → Interval → ℕ → List ℕ
 regionRecord markets v r =
-    encode regionWidths (regionLength markets ∷ 17 ∷ r ∷ getD (v .marked) r 0 ∷ ofZ w32 (getD (v .flows) r (pos 0)) ∷ getD (v .factors) r 0 ∷ [])
+    encode regionWidths
+    (regionLength markets ∷ 17 ∷ r ∷ getD (v .marked) r 0 ∷ ofZ w32 (getD (v .flows) r (pos 0)) ∷ getD (v .factors) r 0 ∷ [])
     ++ words (rowOf markets (v .prices) r)
 
 unfoldable pub intervalBytes : ℕ → ℕ → Interval → List ℕ

@@ -35,7 +35,8 @@ pub struct Written {
 // The head of an interval as the first bytes of the buffer.
 fn put_head(buffer: &mut [u8], regions: u8, number: u32, kind: u8)
     requires { ⌜ headLength ≤ length (now buffer) ⌝ }
-    ensures { λ _. ⌜ now (buffer .exit) ≡ sets (now (buffer .entry)) 0 (encode headWidths (headLength ∷ 16 ∷ number ∷ kind ∷ regions ∷ [])) ⌝ }
+    ensures { λ _. ⌜ (let values = headLength ∷ 16 ∷ number ∷ kind ∷ regions ∷ [] in
+        now (buffer .exit) ≡ sets (now (buffer .entry)) 0 (encode headWidths values)) ⌝ }
 {
     put(buffer, 0, 4, 12);
     put(buffer, 4, 2, 16);
@@ -138,7 +139,8 @@ pub fn write_interval(
     factors: &[u32],
     buffer: &mut [u8],
 ) -> Written
-    ensures { λ r. ⌜ (let v = intervalOf number kind (now (prices .entry)) (now (marked .entry)) (now (flows .entry)) (now (factors .entry)) in
+    ensures { λ r. ⌜ (let v = intervalOf number kind (now (prices .entry)) (now (marked .entry)) (now (flows .entry))
+        (now (factors .entry)) in
         outcome r (now (buffer .exit)) ≡ writeInterval book v (now (buffer .entry))) ⌝ }
 {
     let answer = write_verdict(

@@ -15,13 +15,14 @@ use Rattle.book.specs.Validity.{valid}
 use Rattle.intervals.specs.declared.reading.Found.{Found}
 use Rattle.intervals.specs.declared.reading.Found.the-variants.{At, Refused}
 use Rattle.intervals.specs.declared.reading.Taken.{Taken}
-use Rattle.interval_records.specs.Layout.{Interval, headLength, lengthFor}
+use Rattle.interval_records.specs.Layout.{Interval, intervalOf, headLength, lengthFor}
 use Rattle.intervals.specs.Lent.{slicesOk}
 use Rattle.interval_records.specs.Record.{recordPlace}
 use Rattle.interval_records.specs.AnyOrder.{recordsVerdict, recordOf}
 
 -- ---- what the records say
--- "region (1), mark (1), flow (4), factor (4), M prices (4 each)": the numbers of region r, whose record is `which r` of those from `first` on
+-- "region (1), mark (1), flow (4), factor (4), M prices (4 each)": the numbers of region r, whose record is `which r` of those from
+-- `first` on
 abbrev pub markFrom : ℕ → List ℕ → ℕ → (ℕ → ℕ) → ℕ → ℕ
 markFrom markets bytes first which r = numberAt bytes (recordPlace markets first (which r) + 7) 1
 
@@ -33,7 +34,8 @@ factorFrom markets bytes first which r = numberAt bytes (recordPlace markets fir
 
 -- price q of "R × M prices (region by region)"
 abbrev pub priceFrom : ℕ → List ℕ → ℕ → (ℕ → ℕ) → ℕ → ℤ
-priceFrom markets bytes first which q = toZ w32 (numberAt bytes (recordPlace markets first (which (q / markets)) + 16 + 4 * (q % markets)) 4)
+priceFrom markets bytes first which q =
+    toZ w32 (numberAt bytes (recordPlace markets first (which (q / markets)) + 16 + 4 * (q % markets)) 4)
 
 -- an interval whose region r is record `which r` of those behind its head
 abbrev pub intervalAt : ℕ → ℕ → List ℕ → ℕ → (ℕ → ℕ) → Interval
@@ -82,17 +84,19 @@ outcome r prices marked flows factors = record {
   verdict = verdict (r .found);
   next = nextIn (r .found);
   book = r .book;
-  interval = record { number = numberIn (r .found); kind = kindIn (r .found); prices = prices; marked = marked; flows = flows; factors = factors };
+  interval = intervalOf (numberIn (r .found)) (kindIn (r .found)) prices marked flows factors;
 }
 
 -- accepted: the interval of the records and "the place after it"; refused: what was lent, and zeros
 unfoldable pub readInterval : Book → List ℕ → ℕ → Interval → Outcome
 readInterval b bytes at lent =
+    let regions = b .regions in
+    let markets = marketsOf (b .services) in
     pick (isAccepted (readVerdict b lent bytes at))
     (record {
       verdict = accepted;
       next = at + lengthFor b;
       book = b;
-      interval = intervalAt (b .regions) (marketsOf (b .services)) bytes at (recordOf (b .regions) (marketsOf (b .services)) bytes (at + headLength));
+      interval = intervalAt regions markets bytes at (recordOf regions markets bytes (at + headLength));
     })
     (record { verdict = readVerdict b lent bytes at; next = 0; book = b; interval = lent })
