@@ -168,12 +168,15 @@ pub fn found_of(found: intervals::reading::Found) -> Found
     ensures { λ r. ⌜ r ≡ foundBy (Intervals.verdict found) (Intervals.nextIn found) (Intervals.numberIn found) (Intervals.kindIn found) ⌝ }
 {
     match found {
-        intervals::reading::Found::At { next, number, kind } => Found {
-            number: 0,
-            next: next as u64,
-            entry: number,
-            kind: kind as u32,
-        },
+        intervals::reading::Found::At { next, number, kind } => {
+            let day = kind as u32;
+            Found {
+                number: 0,
+                next: next as u64,
+                entry: number,
+                kind: day,
+            }
+        }
         intervals::reading::Found::Refused(refusal) => Found {
             number: number(refusal),
             next: 0,

@@ -15,8 +15,8 @@ of p q e = sym (ap (λ (x : Found). foundBy (verdict x) (nextIn x) (numberIn x) 
 enum-known-found : tie.Need-enum-known-found
 enum-known-found c = search needs
 
-cast-t8 : tie.Need-cast-t8
-cast-t8 c = search needs
+cast-day : tie.Need-cast-day
+cast-day c = search needs
 
 enum-known-found-2 : tie.Need-enum-known-found-2
 enum-known-found-2 c = search needs
@@ -32,4 +32,4 @@ returns-2 c = rw (c .number .ensures) (of _ _ (c .before .before .found2 .given 
 
 pub found-of-spec : {M : Type 1} → statement M
 found-of-spec =
-    tie.close (tie.spec enum-known-found cast-t8 enum-known-found-2 number-requires returns returns-2)
+    tie.close (tie.spec enum-known-found cast-day enum-known-found-2 number-requires returns returns-2)
