@@ -59,6 +59,7 @@ pub enum Refusal {
     Broken,
     RecordKind,
     RecordRegion,
+    PlannedPrice,
 }
 
 // What a call that answers nothing else says.
@@ -115,6 +116,7 @@ pub fn number(refusal: Refusal) -> u32
         Refusal::Broken => 40,
         Refusal::RecordKind => 41,
         Refusal::RecordRegion => 42,
+        Refusal::PlannedPrice => 43,
     }
 }
 

@@ -137,7 +137,8 @@ fn window_ok(
     ok & ((total <= sum) & (sum <= total))
 }
 
-fn prices_ok(book: Book, ring: &[i32]) -> bool
+// Whether every counted price of the book is in range, and every sum is the total of its prices.
+pub fn prices_ok(book: Book, ring: &[i32]) -> bool
     requires { ⌜ (valid book ≡ true) × (length (now ring) ≡ ringOf book) ⌝ }
     ensures { λ x. ⌜ x ≡ pricesOk book (now (ring .entry)) ⌝ }
 {

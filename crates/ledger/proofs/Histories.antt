@@ -80,7 +80,7 @@ module _ (by : Item → ℤ → ℤ) (x : ℤ) (h : List Item) where
       ∙ ap (by i) (sym set-now)
 
 -- ---- the unmarked prices
-unmarked-append : (M r m : ℕ) (es fs : List Entry) → unmarkedPrices M r m (es ++ fs) ≡ unmarkedPrices M r m es ++ unmarkedPrices M r m fs
+pub unmarked-append : (M r m : ℕ) (es fs : List Entry) → unmarkedPrices M r m (es ++ fs) ≡ unmarkedPrices M r m es ++ unmarkedPrices M r m fs
 unfolding unmarkedPrices
 unmarked-append M r m [] fs = refl
 unmarked-append M r m (e ∷ es) fs =
@@ -112,7 +112,7 @@ unmarked-many M r m n (e ∷ es) = go (isUnmarked e r) (unmarked-many M r m n es
     go false i = i
 
 -- the last W with one more
-last-pushed : (W : ℕ) → 0 < W → (u : List ℤ) (x : ℤ) → lastN W (u ++ x ∷ []) ≡ pushed W (lastN W u) x
+pub last-pushed : (W : ℕ) → 0 < W → (u : List ℤ) (x : ℤ) → lastN W (u ++ x ∷ []) ≡ pushed W (lastN W u) x
 unfolding pushed
 last-pushed W w u x =
     by-test (ltb (length (lastN W u)) W)
