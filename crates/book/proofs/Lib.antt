@@ -1,3 +1,4 @@
 pub mod Ways
 pub mod Validities
 pub mod Passes
+pub mod Places

@@ -10,6 +10,7 @@ use book_calls::setting::set_threshold;
 use entries::enter;
 use face::Found;
 use face::Kept;
+use face::Left;
 use face::Rows;
 use face::Seen;
 use face::Taken;
@@ -17,6 +18,7 @@ use face::Written;
 use face::found_of;
 use face::interval_of;
 use face::kept_of;
+use face::left_of;
 use face::rows_of;
 use face::seen_of;
 use face::taken_of;
@@ -26,6 +28,7 @@ use image::loading::load;
 use image::storing::store;
 use interval_writer::writing::write_interval;
 use intervals::reading::read_interval;
+use planning::intervals_left;
 use pricing::indexing::Answer;
 use pricing::indexing::Quarters;
 use pricing::indexing::indexed;
@@ -47,7 +50,8 @@ ghost use Rattle.image.specs.Loading.{checked, loaded};
 ghost use Rattle.interval_records.specs.Layout.{intervalOf};
 ghost use Rattle.intervals.specs.Reading.{readInterval};
 ghost use Rattle.interval_writer.specs.Writing.{writeInterval};
-ghost use Rattle.face.specs.Face.{openedOf, changedOf, takenOf, numbersOf, storedOf, loadedOf, readOf, writeOf, rowsOf, energyOf};
+ghost use Rattle.planning.specs.Left.{intervalsLeft};
+ghost use Rattle.face.specs.Face.{openedOf, changedOf, takenOf, numbersOf, storedOf, loadedOf, readOf, writeOf, plannedOf, rowsOf, energyOf};
 ghost use Rattle.replay.specs.Replay.{lentOf, outcome, replayed};
 ghost use Rattle.replay.specs.Promise.{promised};
 ghost use Rattle.capi.specs.Host.{year, indexAnswer};
@@ -196,6 +200,22 @@ pub extern "C" fn guxhamole_interval_write(
     let written = write_interval(book, entry, kind, prices, marks, flows, factors, buffer);
     let size = written.size;
     interval_of(size)
+}
+
+// How many further unmarked intervals at a price make a market's sum exceed the threshold, 0 if none of 1 to W does.
+#[no_mangle]
+pub extern "C" fn guxhamole_intervals_left(
+    book: Book,
+    ring: &[i32],
+    region: u32,
+    market: u32,
+    price: i32,
+) -> Left
+    ensures { λ r. ⌜ plannedOf r book ≡ intervalsLeft book (now (ring .entry)) region market price ⌝ }
+{
+    let planned = intervals_left(book, ring, region, market, price);
+    let left = planned.left;
+    left_of(left)
 }
 
 // The schedule of one market from 28 days of prices and their kinds; `energy` 0 is a service, anything else energy.

@@ -12,6 +12,7 @@ use Rattle.pricing.specs.Verdict.{Verdict, accepted, refused}
 use Rattle.book.specs.declared.record.Book.{Book}
 use Rattle.book.specs.Record.{ringSize, isAccepted}
 use Rattle.book.specs.Validity.{valid}
+use Rattle.book.proofs.Places.{Placeless, no-place, taken, either}
 use Rattle.book_calls.specs.Opening as Opening
 use Rattle.book_calls.specs.Setting as Setting
 use Rattle.book_calls.specs.Report.{Numbers, nothing, reportVerdict, reportOf}
@@ -27,13 +28,17 @@ use Rattle.intervals.proofs.Places.{read-place, read-book}
 use Rattle.interval_writer.specs.Writing as Writing
 use Rattle.interval_writer.specs.Writing.{writeInterval}
 use Rattle.interval_writer.proofs.Places.{write-place, write-book}
+use Rattle.planning.specs.Left as Planning
+use Rattle.planning.specs.Left.{intervalsLeft}
+use Rattle.planning.proofs.Places.{left-place, left-book}
 use Rattle.face.specs.declared.Kept.{Kept}
 use Rattle.face.specs.declared.Taken.{Taken}
 use Rattle.face.specs.declared.Seen.{Seen}
 use Rattle.face.specs.declared.Written.{Written}
 use Rattle.face.specs.declared.Found.{Found}
-use Rattle.face.specs.Face.{verdictBy, keptBy, takenBy, seenBy, writtenBy, foundBy}
-use Rattle.face.specs.Face.{openedOf, changedOf, loadedOf, takenOf, numbersOf, storedOf, readOf, writeOf}
+use Rattle.face.specs.declared.Left.{Left}
+use Rattle.face.specs.Face.{verdictBy, keptBy, takenBy, seenBy, writtenBy, foundBy, leftBy}
+use Rattle.face.specs.Face.{openedOf, changedOf, loadedOf, takenOf, numbersOf, storedOf, readOf, writeOf, plannedOf}
 
 -- ---- calls that hand back a book
 module _ (k : Kept) {v : Verdict} {b : Book} (e : k ≡ keptBy v b) where
@@ -51,16 +56,17 @@ pub taken-by : (r : Taken) {v : Verdict} {count : ℕ} {b : Book} {ring table : 
 taken-by r {ring = ring} {table = table} e h = ap (λ (x : Taken). takenOf x ring table) e ∙ h
 
 -- ---- a report and a store: none of their refusals has a place
-by-report : (a b : Bool) (n : Numbers) → n .verdict .place ≡ 0
-    → pick a (nothing (refused 10)) (pick (isAccepted (pick b (refused 21) accepted)) n (nothing (pick b (refused 21) accepted)))
-    .verdict .place ≡ 0
-by-report true b n e = refl
-by-report false true n e = refl
-by-report false false n e = e
+verdict-of-report : (b : Book) (region market : ℕ) → Placeless (reportVerdict (b .regions) (b .services) region market)
+unfolding reportVerdict
+verdict-of-report b region market = either (not (ltb region (b .regions) && leb market (b .services))) (no-place 21) taken
 
 report-place : (b : Book) (region market : ℕ) → reportOf b region market .verdict .place ≡ 0
-unfolding reportOf reportVerdict
-report-place b region market = by-report (not (valid b)) (not (ltb region (b .regions) && leb market (b .services))) _ refl
+unfolding reportOf
+report-place b region market =
+    let v = reportVerdict (b .regions) (b .services) region market in
+    by-test (valid b)
+    (λ t. rw t (by-test (isAccepted v) (λ u. rw u refl) (λ u. rw u (verdict-of-report b region market .none))))
+    (λ t. rw t refl)
 
 -- numbers with another place
 abbrev numbersAt : Numbers → ℕ → Numbers
@@ -74,25 +80,18 @@ seen-by r b region market e h =
     ap numbersOf (e ∙ ap seenBy h)
     ∙ ap (λ (p : ℕ). numbersAt o p) (sym (report-place b region market))
 
-by-store : (a b c d : Bool)
-    → pick a (refused 10) (pick b (refused 11) (pick c (refused 22) (pick d (refused 23) accepted))) .place ≡ 0
-by-store true b c d = refl
-by-store false true c d = refl
-by-store false false true d = refl
-by-store false false false true = refl
-by-store false false false false = refl
-
 module _ (b : Book) (ring : List ℤ) (buffer : List ℕ) where
-  verdict-place : storeVerdict b ring (length buffer) .place ≡ 0
+  verdict-place : Placeless (storeVerdict b ring (length buffer))
   unfolding storeVerdict
   verdict-place =
-      by-store (not (valid b)) (not (eqb (length ring) (ringSize (b .regions) (b .services) (b .window)))) (not (pricesOk b ring))
-      (ltb (length buffer) (lengthOf b))
+      either (not (valid b)) (no-place 10)
+      (either (not (eqb (length ring) (ringSize (b .regions) (b .services) (b .window)))) (no-place 11)
+      (either (not (pricesOk b ring)) (no-place 22) (either (ltb (length buffer) (lengthOf b)) (no-place 23) taken)))
 
   store-place : stored b ring buffer .verdict .place ≡ 0
   unfolding stored
   store-place =
-      by-test (isAccepted (storeVerdict b ring (length buffer))) (λ t. rw t refl) (λ t. rw t verdict-place)
+      by-test (isAccepted (storeVerdict b ring (length buffer))) (λ t. rw t refl) (λ t. rw t (verdict-place .none))
 
   store-book : stored b ring buffer .book ≡ b
   unfolding stored
@@ -123,3 +122,12 @@ write-by r {v} {n} {c} {after} b i buffer e h =
     let p : v .place ≡ 0 = ap (λ (x : Writing.Outcome). x .verdict .place) h ∙ write-place b i buffer in
     let q : c ≡ b = ap (λ (x : Writing.Outcome). x .book) h ∙ write-book b i buffer in
     ap (λ (x : Written). writeOf x b after) e ∙ (rw (p, q) at h)
+
+-- ---- a question of intervals left: none of its refusals has a place
+pub left-by : (r : Left) {v : Verdict} {n : ℕ} {c : Book} (b : Book) (ring : List ℤ) (region market : ℕ) (price : ℤ)
+    → r ≡ leftBy v n → record { verdict = v; intervals = n; book = c } ≡ intervalsLeft b ring region market price
+    → plannedOf r b ≡ intervalsLeft b ring region market price
+left-by r {v} {n} {c} b ring region market price e h =
+    let p : v .place ≡ 0 = ap (λ (x : Planning.Outcome). x .verdict .place) h ∙ left-place b ring region market price in
+    let q : c ≡ b = ap (λ (x : Planning.Outcome). x .book) h ∙ left-book b ring region market price in
+    ap (λ (x : Left). plannedOf x b) e ∙ (rw (p, q) at h)

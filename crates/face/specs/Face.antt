@@ -15,12 +15,14 @@ use Rattle.entries.specs.Entering as Entering
 use Rattle.interval_records.specs.Layout.{intervalOf}
 use Rattle.intervals.specs.Reading as Reading
 use Rattle.interval_writer.specs.Writing as Writing
+use Rattle.planning.specs.Left as Planning
 use Rattle.schedule.specs.Schedule as Schedule
 use Rattle.face.specs.declared.Kept.{Kept}
 use Rattle.face.specs.declared.Taken.{Taken}
 use Rattle.face.specs.declared.Seen.{Seen}
 use Rattle.face.specs.declared.Written.{Written}
 use Rattle.face.specs.declared.Found.{Found}
+use Rattle.face.specs.declared.Left.{Left}
 use Rattle.face.specs.declared.Rows.{Rows}
 
 -- "number" and "place" beside each other: number 0 is an acceptance
@@ -63,6 +65,10 @@ readOf r book prices marked flows factors = record {
 abbrev pub writeOf : Written → Book → List ℕ → Writing.Outcome
 writeOf r book buffer = record { verdict = verdictBy (r .number) 0; length = r .length; book = book; buffer = buffer }
 
+-- 2026-02: "10, 11, 21 and store's 22", 43, which have no place; the book is the caller's
+abbrev pub plannedOf : Left → Book → Planning.Outcome
+plannedOf r book = record { verdict = verdictBy (r .number) 0; intervals = r .intervals; book = book }
+
 abbrev pub rowsOf : Rows → Schedule.Outcome
 rowsOf r = record { verdict = verdictBy (r .number) (r .place); weekday = r .weekday; weekend = r .weekend }
 
@@ -85,3 +91,6 @@ writtenBy v length = record { number = v .number; length = length }
 
 abbrev pub foundBy : Verdict → ℕ → ℕ → ℕ → Found
 foundBy v next entry kind = record { number = v .number; next = next; entry = entry; kind = kind }
+
+abbrev pub leftBy : Verdict → ℕ → Left
+leftBy v intervals = record { number = v .number; intervals = intervals }

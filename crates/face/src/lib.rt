@@ -19,8 +19,9 @@ ghost use Rattle.entries.specs.Entering as Entering;
 ghost use Rattle.image.specs.Storing as Storing;
 ghost use Rattle.intervals.specs.Reading as Intervals;
 ghost use Rattle.interval_writer.specs.Writing as Writing;
+ghost use Rattle.planning.specs.Left as Planning;
 ghost use Rattle.schedule.specs.Schedule.{verdictOf, answered};
-ghost use Rattle.face.specs.Face.{keptBy, takenBy, seenBy, writtenBy, foundBy, rowsOf};
+ghost use Rattle.face.specs.Face.{keptBy, takenBy, seenBy, writtenBy, foundBy, leftBy, rowsOf};
 
 // `guxhamole_kept`: a call that hands back a book and nothing else.
 #[repr(C)]
@@ -63,6 +64,13 @@ pub struct Found {
     pub next: u64,
     pub entry: u32,
     pub kind: u32,
+}
+
+// `guxhamole_left`: how many intervals are left before a market's sum exceeds the threshold. Its refusals have no place.
+#[repr(C)]
+pub struct Left {
+    pub number: u32,
+    pub intervals: u32,
 }
 
 // `guxhamole_rows`: a schedule.
@@ -182,6 +190,24 @@ pub fn found_of(found: intervals::reading::Found) -> Found
             next: 0,
             entry: 0,
             kind: 0,
+        },
+    }
+}
+
+pub fn left_of(left: planning::Left) -> Left
+    ensures { λ r. ⌜ r ≡ leftBy (Planning.verdict left) (Planning.intervalsIn left) ⌝ }
+{
+    match left {
+        planning::Left::Intervals(n) => {
+            let intervals = n as u32;
+            Left {
+                number: 0,
+                intervals,
+            }
+        }
+        planning::Left::Refused(refusal) => Left {
+            number: number(refusal),
+            intervals: 0,
         },
     }
 }

@@ -1,30 +1,15 @@
 -- No refusal of an interval's records has a place. Assumes nothing.
-use mathlib.Core.Path.{_≡_, refl}
-use mathlib.Core.Bool.{Bool, true, false, not}
+use mathlib.Core.Bool.{not}
 use mathlib.Core.List.{List}
 use Prim.Native.Nat.{ℕ, zero, suc, _+_}
 use lib.Dec.{eqb}
-use Rattle.laws.specs.Base.{pick}
 use Rattle.laws.specs.Bytes.{numberAt}
-use Rattle.pricing.specs.Verdict.{Verdict, accepted, refused}
+use Rattle.pricing.specs.Verdict.{Verdict}
 use Rattle.book.specs.Record.{isAccepted}
+use Rattle.book.proofs.Places.{Placeless, no-place, taken, either}
 use Rattle.interval_records.specs.Layout.{headLength}
 use Rattle.interval_records.specs.Record.{kindAt, whole, dueVerdict, headVerdict, recordPlace, firstRefusal}
 use Rattle.interval_records.specs.AnyOrder.{stray, regionVerdict, recordsVerdict}
-
-pub record Placeless (v : Verdict) : Type 0 where
-  pub none : v .place ≡ 0
-
--- a refusal without a place, an acceptance, and a choice of two such
-pub no-place : (n : ℕ) → Placeless (refused n)
-no-place n = record { none = refl }
-
-pub taken : Placeless accepted
-taken = record { none = refl }
-
-pub either : (t : Bool) {v w : Verdict} → Placeless v → Placeless w → Placeless (pick t v w)
-either true a b = a
-either false a b = b
 
 module _ (R M : ℕ) (bytes : List ℕ) where
   due-place : (kind p : ℕ) → Placeless (dueVerdict kind M bytes p)

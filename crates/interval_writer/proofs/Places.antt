@@ -11,7 +11,7 @@ use Rattle.book.specs.Record.{isAccepted}
 use Rattle.book.specs.Validity.{valid}
 use Rattle.interval_records.specs.Layout.{Interval, lengthFor}
 use Rattle.intervals.specs.Lent.{slicesOk}
-use Rattle.interval_records.proofs.Places.{Placeless, no-place, taken, either}
+use Rattle.book.proofs.Places.{Placeless, no-place, taken, either}
 use Rattle.interval_writer.specs.Writing.{writeLengths, writeVerdict, writeInterval}
 
 module _ (b : Book) (v : Interval) (buffer : List ℕ) where

@@ -7,8 +7,9 @@ use Rattle.laws.proofs.Tests.{by-test}
 use Rattle.book.specs.declared.record.Book.{Book}
 use Rattle.book.specs.Record.{marketsOf, isAccepted}
 use Rattle.book.specs.Validity.{valid}
+use Rattle.book.proofs.Places.{Placeless, no-place, either}
 use Rattle.interval_records.specs.Layout.{Interval}
-use Rattle.interval_records.proofs.Places.{Placeless, no-place, either, records-place}
+use Rattle.interval_records.proofs.Places.{records-place}
 use Rattle.intervals.specs.Lent.{slicesOk}
 use Rattle.intervals.specs.Reading.{readVerdict, readInterval}
 

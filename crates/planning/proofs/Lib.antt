@@ -1,0 +1,5 @@
+pub mod Least
+pub mod Steps
+pub mod Ways
+pub mod Brought
+pub mod Places
