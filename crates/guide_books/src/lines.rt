@@ -6,7 +6,9 @@
 //   e          an entry: number, day kind
 //   t c        set the threshold; cap and floor
 //   r          report: region, market
+//   q          a question of intervals left: region, market, price
 //   b          break the ring and the first sum, as others might; v: view that sum
+//   j          put a number into a place of the ring, as others might
 //   =          a heading to print; lines that begin with anything else are for the reader
 use book::record::Book;
 use book::record::closed;
@@ -14,10 +16,15 @@ use book_calls::opening::open;
 use book_calls::report::report;
 use book_calls::setting::set_limits;
 use book_calls::setting::set_threshold;
+use codec::bits32;
 use entries::enter;
+use planning::Left;
+use planning::intervals_left;
 use stage::printing::amount;
 use stage::printing::answered;
+use stage::printing::number;
 use stage::printing::published;
+use stage::printing::refusal;
 use stage::printing::reported;
 use stage::printing::say;
 use stage::reading::byte;
@@ -116,6 +123,35 @@ fn shown(book: Book, text: &[u8], at: usize) -> Book {
     r.book
 }
 
+// How many intervals are left, or the refusal.
+fn print_left(left: Left) {
+    say(b"left");
+    match left {
+        Left::Intervals(n) => number(n as u64),
+        Left::Refused(r) => refusal(r),
+    }
+    say(b"\n");
+}
+
+fn questioned(book: Book, ring: &[i32], text: &[u8], at: usize) -> Book {
+    let mut z = [0i32; 3];
+    signed_numbers(text, at, &mut z);
+    let p = intervals_left(book, ring, bits32(z[0]), bits32(z[1]), z[2]);
+    let left = p.left;
+    print_left(left);
+    p.book
+}
+
+fn put_place(book: Book, ring: &mut [i32], text: &[u8], at: usize) -> Book {
+    let mut z = [0i32; 2];
+    signed_numbers(text, at, &mut z);
+    let place = size(bits32(z[0]));
+    if place < ring.len() {
+        ring[place] = z[1];
+    }
+    book
+}
+
 // A book whose first sum is at its bound, and a ring whose first place holds the least number.
 fn broken(before: Book, ring: &mut [i32]) -> Book {
     let mut book = before;
@@ -159,6 +195,8 @@ fn called(
     match letter {
         b'o' => opened(ring, text, at, lent[5]),
         b'e' => entered(book, ring, text, at, lent),
+        b'q' => questioned(book, ring, text, at),
+        b'j' => put_place(book, ring, text, at),
         b'b' => broken(book, ring),
         _ => asked(book, letter, text, at),
     }

@@ -15,8 +15,8 @@ left-of-requires c κs = search needs
 
 returns : tie.Need-returns
 returns c =
-    let v = c .before .before .before in
-    let a = v .before .before .before .args in
+    let v = c .before in
+    let a = v .before .args in
     let f : SFits w32 (a .price) = search needs in
     left-by (c .left-of .result) (a .book) (a .ring .now) (a .region) (a .market) (a .price) (c .left-of .ensures)
     (rw (toZ-ofZ f) at (v .intervals-left .ensures))
