@@ -4,6 +4,7 @@
     book = Book.open(Settings(regions=1, services=0, parents=[255] * 8, threshold=2_000_000))
     count, table = book.enter(book.entries, 0, [8_500], [0], [0], [0], [0] * 96)
     print(book.report(0, 0))        # Report(sum=8500, counted=1, administered=False, entries=1)
+    left = book.intervals_left(0, 0, 30_000)  # 67 more of this price exceed the threshold; 0: no number up to W does
     saved = book.store()            # bytes; Book.load(saved) goes on from here, after a restart too
 
 Intervals that a site's logger hands over as records (request 2026-01 of document 02) are entered by
@@ -68,6 +69,7 @@ MEANINGS = {
     40: "a record missing, cut short, or of another length than its kind has",
     41: "a record's kind, or a head's region total, that doesn't belong there",
     42: "a record of a region from R up or given before",
+    43: "a price asked about is outside its market's entry range",
 }
 
 # "15 to 17 give the first place in the lent slice"; beside any other refusal the place is 0 and says nothing.
@@ -182,11 +184,17 @@ class _Found(ctypes.Structure):
     _fields_ = [("number", c_uint32), ("next", c_uint64), ("entry", c_uint32), ("day_kind", c_uint32)]
 
 
+class _Left(ctypes.Structure):
+    _fields_ = [("number", c_uint32), ("intervals", c_uint32)]
+
+
 class _Rows(ctypes.Structure):
     _fields_ = [("number", c_uint32), ("place", c_uint64), ("weekday", c_int32 * 48), ("weekend", c_int32 * 48)]
 
 
-_SIZES = {_Settings: 32, _Book: 864, _Kept: 880, _Entered: 888, _Reading: 24, _Stored: 16, _Found: 24, _Rows: 400}
+_SIZES = {
+    _Settings: 32, _Book: 864, _Kept: 880, _Entered: 888, _Reading: 24, _Stored: 16, _Found: 24, _Left: 8, _Rows: 400,
+}
 for _layout, _size in _SIZES.items():
     if ctypes.sizeof(_layout) != _size:
         raise ImportError(f"{_layout.__name__} has {ctypes.sizeof(_layout)} bytes here, {_size} in the archive")
@@ -206,6 +214,7 @@ _FUNCTIONS = {
     "set_threshold": (_Kept, [_Book, c_int64]),
     "set_limits": (_Kept, [_Book, c_int32, c_int32]),
     "report": (_Reading, [_Book, c_uint32, c_uint32]),
+    "intervals_left": (_Left, [_Book, *_SIGNED, c_uint32, c_uint32, c_int32]),
     "enter": (_Entered, [_Book, *_SIGNED, c_uint32, c_uint8, *_CONTENTS, *_SIGNED, *_SIGNED]),
     "store": (_Stored, [_Book, *_SIGNED, *_BYTES]),
     "load": (_Kept, [*_BYTES, *_SIGNED]),
@@ -351,6 +360,13 @@ class Book:
         """How a market stands; market 0 is energy. Refusal: 21."""
         answer = _accepted(_face().guxhamole_report(self._book, _fits(region, c_uint32), _fits(market, c_uint32)))
         return Report(answer.sum, answer.counted, answer.mark == 1, answer.entries)
+
+    def intervals_left(self, region: int, market: int, price: int) -> int:
+        """The least number of further unmarked intervals, 1 to W (the window), each bringing a market this price, after
+        which its sum would exceed the present threshold, old prices leaving as they would; 0 exactly if none of 1 to W
+        does, also where the sum exceeds it now. The book and ring stay. Refusals: 21 43."""
+        question = (_fits(region, c_uint32), _fits(market, c_uint32), _fits(price, c_int32))
+        return _accepted(_face().guxhamole_intervals_left(self._book, *_lent(self._ring), *question)).intervals
 
     def store(self) -> bytes:
         """The book's image, of which `load` makes the same book."""

@@ -211,7 +211,7 @@ class Refusals(unittest.TestCase):
         self.assertEqual(bytes(room), bytes([9] * 151))
 
     def test_meanings(self):
-        self.assertEqual(list(guxhamole.MEANINGS), [*range(10, 28), *range(30, 34), *range(40, 43)])
+        self.assertEqual(list(guxhamole.MEANINGS), [*range(10, 28), *range(30, 34), *range(40, 44)])
         refusal = pickle.loads(pickle.dumps(Refusal(16, 3)))
         self.assertEqual(str(refusal), "refused 16 at 3: a price out of its market's range")
 
@@ -339,7 +339,7 @@ class Library(unittest.TestCase):
         lines = [line[4:] for line in guxhamole.__doc__.splitlines() if line.startswith("    ")]
         names = {"print": lambda report: self.assertEqual(report, (8_500, 1, False, 1))}
         exec("\n".join(lines), names)
-        self.assertEqual(Book.load(names["saved"]).entries, 1)
+        self.assertEqual((names["left"], Book.load(names["saved"]).entries), (67, 1))
 
 
 if __name__ == "__main__":
