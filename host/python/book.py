@@ -1,7 +1,7 @@
-"""Document 01's rule 10, from its words alone: the book records that every call refuses. The tests hold the library to
-it; it shares no code with guxhamole.py."""
+"""Document 01's rule 10, from its words alone: the book records that every call refuses; and the rings that store
+refuses beside them, by 11 and 22. The tests hold the library to it; it shares no code with guxhamole.py."""
 
-from arithmetic import Refused, limits_good
+from arithmetic import Refused, limits_good, price_good
 from ledger import MOST_ENTRIES, parents_good
 
 LARGEST_SUM = 20_160_000_000
@@ -41,3 +41,27 @@ def markets_good(book):
         if abs(total) > (LARGEST_SUM if used else 0) or mark > (1 if used else 0):
             return False
     return True
+
+
+def refuse_length(book, ring):
+    """ "a lent ring of exactly R × M × W" """
+    if len(ring) != book.regions * (book.services + 1) * book.window:
+        raise Refused(11)
+
+
+def counted(book, ring, region, market):
+    """A market's counted prices, oldest first: its window "starts at (region × M + market) × W; a region's count and
+    next place serve all its markets", and while the window isn't full its first place is the oldest. """
+    start = (region * (book.services + 1) + market) * book.window
+    window, count, place = list(ring[start:start + book.window]), book.counts[region], book.nexts[region]
+    return window[place:] + window[:place] if count == book.window else window[:count]
+
+
+def refuse_prices(book, ring):
+    """22, over every market: a counted price out of its market's range, or a sum that is not the total."""
+    for region in range(book.regions):
+        for market in range(book.services + 1):
+            prices = counted(book, ring, region, market)
+            good = all(price_good(price, market == 0) for price in prices)
+            if not good or sum(prices) != book.sums[11 * region + market]:
+                raise Refused(22)

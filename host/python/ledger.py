@@ -113,14 +113,47 @@ class Ledger:
         refuse_limits(cap, floor)
         self.settings.append(self.settings[-1]._replace(entries=self.taken, cap=cap, floor=floor))
 
+    def refuse_market(self, region, market):
+        """21: a region from R up, or a market above S."""
+        if region >= self.opening.regions or market >= self.markets:
+            raise Refused(21)
+
     def report(self, region, market):
         """ "sum and prices counted after the last entry (0 before the first), mark 1 if administered at the next and
         else 0, and how many entries were accepted" """
-        if region >= self.opening.regions or market >= self.markets:
-            raise Refused(21)
+        self.refuse_market(region, market)
         prices = self.counted(region, market, self.taken - 1)
         mark = self.administered(region, market, self.taken)
         return sum(prices), len(prices), mark, self.marked + self.taken
+
+    def intervals_left(self, region, market, price):
+        """Request 2026-02 of document 02: "the least number of further unmarked intervals, 1 to W, each bringing the
+        window that price, after which the sum would exceed the present threshold, old prices leaving as they would; 0
+        exactly if none does". They are entered, one after the other, in a copy of the history. "43: a price outside
+        the entry range", after 21; 10, 11 and 22 are of a record and ring, of which a ledger has none. """
+        self.refuse_market(region, market)
+        if not price_good(price, market == 0):
+            raise Refused(43)
+        threshold = self.setting(self.taken).threshold
+        further = self.history()
+        for number in range(1, self.opening.window + 1):
+            further.entries.append(further.unmarked(region, market, price))
+            if sum(further.counted(region, market, further.taken - 1)) > threshold:
+                return number
+        return 0
+
+    def history(self):
+        """A ledger with the same entries and settings, to which more may be added."""
+        same = Ledger(self.opening, self.marked)
+        same.entries, same.settings = list(self.entries), list(self.settings)
+        return same
+
+    def unmarked(self, region, market, price):
+        """An entry in which no region is marked: this market's price, every other one 0."""
+        regions, places = self.opening.regions, self.opening.regions * self.markets
+        prices = [price if place == region * self.markets + market else 0 for place in range(places)]
+        schedule = [0] * (places * 2 * self.opening.halves)
+        return Entry(self.marked + self.taken, 0, prices, [0] * regions, [0] * regions, [10_000] * regions, schedule)
 
     def enter(self, *lent):
         """The count and the table of an accepted entry."""
