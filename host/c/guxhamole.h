@@ -1,7 +1,8 @@
 /* The functions that a host in C11 or C++17 calls: a book of administered prices that the host keeps in its own memory, and
-   beside it the records of intervals, the image check, the schedule maker, the index, the amount text and the replay of lists of
-   calls. Link with libcapi.a, which `rt staticlib capi` writes to target/staticlib, for x86-64 Linux alone. docs/REFUSALS.md has
-   every number that they answer: its meaning, its place and what a host should do. host/c/box.c is a host to copy.
+   beside it the intervals left before a period, the records of intervals, the image check, the schedule maker, the index, the
+   amount text and the replay of lists of calls. Link with libcapi.a, which `rt staticlib capi` writes to target/staticlib, for
+   x86-64 Linux alone. docs/REFUSALS.md has every number that they answer: its meaning, its place and what a host should do.
+   host/c/box.c is a host to copy.
 
    Proved of every function, for all arguments: it reads and writes only what it is lent, allocates nothing, keeps no pointer
    and no state of its own, ends, and its whole outcome (the answer, the book that it hands back and the contents of every
@@ -12,8 +13,9 @@
    ledger machine, which keeps the whole history and no sum: acceptance, or refusal with its place; an entry's count and
    published table; a report's four numbers. For that to hold of a host, it
    - begins with an accepted guxhamole_open;
-   - hands each call the book that the call before handed back, accepted or refused; guxhamole_report, guxhamole_store and the
-     two calls of interval records hand none back and change none, so that the next call gets the same book again;
+   - hands each call the book that the call before handed back, accepted or refused; guxhamole_report, guxhamole_store,
+     guxhamole_intervals_left and the two calls of interval records hand none back and change none, so that the next call gets
+     the same book again;
    - lends the ring that the opening or load was lent, at its full length, and lets these calls alone write to it and to the
      book (both may be copied and moved between calls: what they hold counts, not where they stand);
    - restarts by a guxhamole_store into a long enough buffer and a guxhamole_load, from exactly the `length` bytes that were
@@ -74,7 +76,7 @@ enum guxhamole_refusal {
     GUXHAMOLE_THRESHOLD = 18,     /* the threshold is outside 1..100,000,000,000 */
     GUXHAMOLE_LIMITS = 19,        /* the cap is outside 1..10,000,000 or the floor outside -10,000,000..-1 */
     GUXHAMOLE_SETTING = 20,       /* another setting of an opening is outside its limits */
-    GUXHAMOLE_MARKET = 21,        /* the report's region or market is not one of the book's */
+    GUXHAMOLE_MARKET = 21,        /* the region or market that is asked for is not one of the book's */
     GUXHAMOLE_SUMS = 22,          /* a counted price of the ring is out of range, or a sum is not the total of its prices */
     GUXHAMOLE_BUFFER = 23,        /* the buffer is shorter than the image, or than the interval's records */
     GUXHAMOLE_IMAGE_LENGTH = 24,  /* fewer than 148 bytes, or the image's length field is not the lent length */
@@ -87,7 +89,8 @@ enum guxhamole_refusal {
     GUXHAMOLE_TEXT = 33,          /* the buffer is too short for the text; shown by a length of 0 alone */
     GUXHAMOLE_RECORD_BROKEN = 40, /* a record is missing or cut short, or its length is below 6 or not its known kind's */
     GUXHAMOLE_RECORD_KIND = 41,   /* a record's kind, or the head's region total, doesn't belong there */
-    GUXHAMOLE_RECORD_REGION = 42  /* a record's region is none of the book's, or was given before */
+    GUXHAMOLE_RECORD_REGION = 42, /* a record's region is none of the book's, or was given before */
+    GUXHAMOLE_LEFT_PRICE = 43     /* the price of further intervals is outside its market's range of entry prices */
 };
 
 /* What a book is opened with; money in cents. */
@@ -140,6 +143,11 @@ typedef struct guxhamole_reading {
     uint32_t entries; /* taken by the book */
     int64_t sum;      /* of the window, in cents */
 } guxhamole_reading;
+
+typedef struct guxhamole_left {
+    uint32_t number;
+    uint32_t intervals; /* 1..W; 0 where none of them does, and beside a refusal */
+} guxhamole_left;
 
 typedef struct guxhamole_stored {
     uint32_t number;
@@ -194,6 +202,20 @@ guxhamole_entered guxhamole_enter(guxhamole_book book,
                                   const uint32_t *factors, size_t factors_length,
                                   const int32_t *schedule, size_t schedule_length,
                                   int32_t *table, size_t table_length);
+
+/* How many intervals are left before a period: the least number n, 1 to W, of further unmarked intervals, each of which brings the
+   market's window this price, after which the market's sum would exceed the present threshold. Old prices leave as they would,
+   the oldest first and only once W are counted. `intervals` is 0 exactly if the sum exceeds it after none of 1 to W, whatever it
+   is now. Sums may rise and fall with n, and the least n is meant. To reach the threshold is not to exceed it.
+     ring            the book's, which is only read; places that hold no counted price are not looked at
+     region, market  whose window it is
+     price           in cents, as an entry takes it: energy -10,000,000..10,000,000, a service 0..10,000,000
+   Period marks, the position and the entries taken are not looked at: an administered market is answered alike, and a book that
+   has taken 10,000,000 entries too.
+   Refusals: 10, 11, 21, 22, 43, each without a place; 22 is the store's, over every market of the book. Refused: intervals is 0.
+   It is no call of the list of which the ledger machine is told: it takes nothing, and book and ring stay as they were. */
+guxhamole_left guxhamole_intervals_left(guxhamole_book book, const int32_t *ring, size_t ring_length,
+                                        uint32_t region, uint32_t market, int32_t price);
 
 /* An interval as records, for loggers that hand intervals on: numbers are little-endian, signed ones in two's complement, and
    with M = S + 1 markets a region the records are
@@ -346,6 +368,9 @@ GUXHAMOLE_AT(reading, counted, 4);
 GUXHAMOLE_AT(reading, mark, 8);
 GUXHAMOLE_AT(reading, entries, 12);
 GUXHAMOLE_AT(reading, sum, 16);
+GUXHAMOLE_SIZE(left, 8);
+GUXHAMOLE_AT(left, number, 0);
+GUXHAMOLE_AT(left, intervals, 4);
 GUXHAMOLE_SIZE(stored, 16);
 GUXHAMOLE_AT(stored, number, 0);
 GUXHAMOLE_AT(stored, length, 8);
