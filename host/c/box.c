@@ -3,7 +3,7 @@
 
    Each line is answered by one line that begins at its first column, details indented above it:
      accepted ..                    an interval, threshold or limits; the book with it is saved (box_files.h), safe from a crash
-     given, saved, region ..        a schedule's row; a save; a report
+     given, saved, region ..        a schedule's row; a save; a report, or the intervals left before a period
      refused N (meaning) [at P]     by the book, which is as it was; docs/REFUSALS.md
      bad line: why                  it is no line of box_lines.h, its file of records cannot be read or is longer than a day's, or
                                     a row of the schedule is lacking; nothing was entered
@@ -223,6 +223,24 @@ static void report(const struct box *box, const struct line *line)
            reading.entries);
 }
 
+/* A question: nothing is entered, and nothing saved. Where no number of intervals does it, the line has 0 in the number's place. */
+static void intervals_left(const struct box *box, const struct line *line)
+{
+    guxhamole_left left = guxhamole_intervals_left(box->book, box->ring, RING, line->region, line->market, line->price);
+    if (left.number != GUXHAMOLE_ACCEPTED) {
+        refused(left.number, 0);
+        return;
+    }
+    uint8_t price[GUXHAMOLE_TEXT_MAX], threshold[GUXHAMOLE_TEXT_MAX];
+    int price_length = (int)guxhamole_amount_text(line->price, price, sizeof price);
+    int threshold_length = (int)guxhamole_amount_text(box->book.threshold, threshold, sizeof threshold);
+    char when[60] = "after which the sum is";
+    if (left.intervals == 0)
+        snprintf(when, sizeof when, "after none of the next %d is the sum", WINDOW);
+    answer("region %" PRIu32 " market %" PRIu32 ": intervals left at %.*s: %" PRIu32 ", %s above %.*s", line->region, line->market,
+           price_length, (const char *)price, left.intervals, when, threshold_length, (const char *)threshold);
+}
+
 static void take(struct box *box, const struct line *line)
 {
     char why[REFUSAL_TEXT];
@@ -239,6 +257,9 @@ static void take(struct box *box, const struct line *line)
         break;
     case LINE_REPORT:
         report(box, line);
+        break;
+    case LINE_LEFT:
+        intervals_left(box, line);
         break;
     case LINE_THRESHOLD:
         set(box, guxhamole_set_threshold(box->book, line->threshold), "threshold");

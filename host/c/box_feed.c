@@ -138,6 +138,31 @@ static void put_records(void)
     puts("records 0 host/c/no.records\nrecords 0 host/c\nrecords 0\nrecords -1 host/c/box.records");
 }
 
+static void put_left(uint32_t region, uint32_t market, int32_t price)
+{
+    struct line line;
+    memset(&line, 0, sizeof line);
+    line.word = LINE_LEFT;
+    line.region = region;
+    line.market = market;
+    line.price = price;
+    feed_line(stdout, &line);
+}
+
+/* Questions that are answered with a number, with none, and refused by 43, by 21 before it, or as no line. */
+static void put_questions(void)
+{
+    put_left(2, 0, 1000000);
+    put_left(2, 0, 100);
+    put_left(2, 0, -100);
+    put_left(1, 1, 0);
+    put_left(2, 0, 10000001);
+    put_left(2, 1, -1);
+    put_left(5, 0, 10000001);
+    put_left(0, 11, 100);
+    puts("left 2 0\nleft 2 0 3000000000\nleft 2 0 100 1");
+}
+
 static void put_bad_lines(void)
 {
     struct line line = feed_interval();
@@ -159,6 +184,8 @@ static void put_short(void)
         struct line line = interval(17 * HOUR + number);
         line.number = (uint32_t)number;
         feed_line(stdout, &line);
+        if (number == 0) /* the period begins after as many more intervals as are answered */
+            put_left(0, 0, line.prices[0]);
     }
     put_bad_lines();
     puts("limits 30000 -30000");
@@ -169,6 +196,7 @@ static void put_short(void)
     put_records();
     puts("save");
     put_reports();
+    put_questions();
 }
 
 int main(int count, char **words)

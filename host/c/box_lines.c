@@ -140,6 +140,11 @@ static void numbers(struct cursor *cursor, struct line *line)
         line->region = natural(cursor);
         line->market = natural(cursor);
         break;
+    case LINE_LEFT:
+        line->region = natural(cursor);
+        line->market = natural(cursor);
+        line->price = cents(cursor);
+        break;
     case LINE_THRESHOLD:
         line->threshold = number(cursor, INT64_MIN, INT64_MAX);
         break;
@@ -158,7 +163,7 @@ const char *line_parsed(const char *text, struct line *line)
         const char *name;
         enum line_word word;
     } words[] = {{"interval", LINE_INTERVAL}, {"records", LINE_RECORDS}, {"schedule", LINE_SCHEDULE}, {"report", LINE_REPORT},
-                 {"threshold", LINE_THRESHOLD}, {"limits", LINE_LIMITS}, {"save", LINE_SAVE}};
+                 {"left", LINE_LEFT}, {"threshold", LINE_THRESHOLD}, {"limits", LINE_LIMITS}, {"save", LINE_SAVE}};
     size_t length = strcspn(text, " ");
     struct cursor cursor = {text + length, "its word is unknown"};
     for (size_t i = 0; i < sizeof words / sizeof *words; i++)

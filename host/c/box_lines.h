@@ -8,6 +8,8 @@
                                                        guxhamole_interval_read takes them
      schedule REGION MARKET KIND PRICES                48 prices: the market's row of the suspension schedule for that day kind
      report REGION MARKET
+     left REGION MARKET PRICE                          in cents: how many more intervals at this price until the sum exceeds the
+                                                       threshold, as guxhamole_intervals_left answers it
      threshold CENTS
      limits CAP FLOOR                                  in cents
      save */
@@ -21,14 +23,14 @@
 /* The most bytes of a line: 72 numbers of 11 characters, with a blank each, have 864. */
 enum { LINE_MOST = 2000 };
 
-enum line_word { LINE_INTERVAL, LINE_RECORDS, LINE_SCHEDULE, LINE_REPORT, LINE_THRESHOLD, LINE_LIMITS, LINE_SAVE };
+enum line_word { LINE_INTERVAL, LINE_RECORDS, LINE_SCHEDULE, LINE_REPORT, LINE_LEFT, LINE_THRESHOLD, LINE_LIMITS, LINE_SAVE };
 
 /* A line's numbers, each of the type that the call takes; those of other words are not set. */
 struct line {
     enum line_word word;
     uint32_t number, region, market;
     uint8_t kind, marks[REGIONS];
-    int32_t prices[PRICES], flows[REGIONS], row[HALVES], cap, floor;
+    int32_t prices[PRICES], flows[REGIONS], row[HALVES], price, cap, floor;
     uint32_t factors[REGIONS];
     int64_t threshold;
     size_t place;

@@ -37,6 +37,9 @@ void feed_line(FILE *out, const struct line *line)
     case LINE_REPORT:
         fprintf(out, "report %" PRIu32 " %" PRIu32, line->region, line->market);
         break;
+    case LINE_LEFT:
+        fprintf(out, "left %" PRIu32 " %" PRIu32 " %" PRId32, line->region, line->market, line->price);
+        break;
     case LINE_THRESHOLD:
         fprintf(out, "threshold %" PRId64, line->threshold);
         break;
