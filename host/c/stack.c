@@ -34,6 +34,7 @@ static void use_open(void) { told = guxhamole_open(settings, ring, RING).number;
 static void use_threshold(void) { told = guxhamole_set_threshold(book, 10000).number; }
 static void use_limits(void) { told = guxhamole_set_limits(book, 60000, -60000).number; }
 static void use_report(void) { told = guxhamole_report(book, 7, 10).number; }
+static void use_left(void) { told = guxhamole_intervals_left(book, ring, RING, 7, 10, 0).number; }
 static void use_store(void) { told = guxhamole_store(book, ring, RING, image, LONGEST).number; }
 static void use_load(void) { told = guxhamole_load(image, image_length, other, RING).number; }
 static void use_check(void) { told = guxhamole_image_check(image, image_length); }
@@ -213,8 +214,8 @@ static void fill_calls(void)
 int main(void)
 {
     static struct use uses[] = {{"threshold", use_threshold, 0}, {"limits", use_limits, 0}, {"report", use_report, 0},
-                                {"store", use_store, 0}, {"image check", use_check, 0}, {"schedule", use_schedule, 0},
-                                {"interval write", use_write, 0}, {"open", use_open, 0}};
+                                {"intervals left", use_left, 0}, {"store", use_store, 0}, {"image check", use_check, 0},
+                                {"schedule", use_schedule, 0}, {"interval write", use_write, 0}, {"open", use_open, 0}};
     static struct use others[] = {{"amount text", use_text, 0}, {"index", use_index, 0}, {"abi", use_abi, 0}};
     static struct use replay = {"replay", use_replay, 0};
     guxhamole_settings own = {REGIONS, SERVICES, WINDOW, HALVES, 0, {255, 0, 1, 2, 3, 4, 5, 6}, 10000, 60000, -60000};

@@ -144,6 +144,9 @@ static uint32_t refusals_of(guxhamole_book book, int32_t *ring, size_t places)
     uint32_t number = entered.number;
     if (threshold.number != number || limits.number != number || guxhamole_report(book, 0, 0).number != number)
         return 0;
+    guxhamole_left left = guxhamole_intervals_left(book, ring, places, 0, 0, 0);
+    if (left.number != number || left.intervals != 0)
+        return 0;
     guxhamole_found found = guxhamole_interval_read(book, image, sizeof image, 0, table, 88, marks, 8, flows, 8, factors, 8);
     if (found.number != number ||
         guxhamole_interval_write(book, 0, 0, zeros, 88, marks, 8, zeros, 8, factors, 8, image, sizeof image).number != number)

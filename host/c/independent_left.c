@@ -1,0 +1,177 @@
+/* Intervals left before a period, by entering them. */
+#include "independent_left.h"
+
+#include <string.h>
+
+enum { HOLDS_BOOK, HOLDS_LENGTH, HOLDS_MARKET, HOLDS_SUMS, HOLDS_PRICE };
+
+const uint32_t left_refusals[LEFT_REFUSALS] = {10, 11, 21, 22, 43};
+
+/* The total of a market's last W prices, or of all if there are fewer. */
+static int64_t window_sum(const int32_t *prices, size_t count, size_t window)
+{
+    int64_t sum = 0;
+    for (size_t i = count > window ? count - window : 0; i < count; i++)
+        sum += prices[i];
+    return sum;
+}
+
+/* Enters the price after the kept ones until the sum is above the threshold, at most W times. The copies lie beyond the count, and
+   so are not kept. */
+static void enter_copies(struct independent_left *left, int32_t *prices, size_t count, size_t window, int32_t price,
+                         int64_t threshold)
+{
+    for (uint32_t entered = 1; entered <= window && left->intervals == 0; entered++) {
+        prices[count++] = price;
+        int64_t sum = window_sum(prices, count, window);
+        left->reached |= sum == threshold;
+        if (sum > threshold)
+            left->intervals = entered;
+    }
+}
+
+static int outside(int64_t number, int64_t least, int64_t most)
+{
+    return number < least || number > most;
+}
+
+static int price_bad(uint32_t market, int64_t price)
+{
+    return outside(price, market == 0 ? -10000000 : 0, 10000000);
+}
+
+/* The first refusal that holds becomes the number. */
+static void refuse(struct independent_left *left)
+{
+    for (int i = LEFT_REFUSALS - 1; i >= 0; i--)
+        if (left->holds[i])
+            left->number = left_refusals[i];
+}
+
+void independent_ledger_open(struct independent_ledger *ledger, const guxhamole_settings *settings)
+{
+    ledger->regions = settings->regions;
+    ledger->services = settings->services;
+    ledger->window = settings->window;
+    ledger->threshold = settings->threshold;
+    memset(ledger->counts, 0, sizeof ledger->counts);
+}
+
+void independent_ledger_enter(struct independent_ledger *ledger, const int32_t *prices, const uint8_t *marks)
+{
+    unsigned markets = ledger->services + 1;
+    for (unsigned region = 0; region < ledger->regions; region++) {
+        if (marks[region] == 1)
+            continue;
+        for (unsigned market = 0; market < markets; market++)
+            ledger->prices[11 * region + market][ledger->counts[region]] = prices[region * markets + market];
+        ledger->counts[region]++;
+    }
+}
+
+struct independent_left independent_ledger_left(struct independent_ledger *ledger, uint32_t region, uint32_t market, int32_t price)
+{
+    struct independent_left left;
+    memset(&left, 0, sizeof left);
+    left.holds[HOLDS_MARKET] = region >= ledger->regions || market > ledger->services;
+    left.holds[HOLDS_PRICE] = price_bad(market, price);
+    refuse(&left);
+    if (left.number == 0)
+        enter_copies(&left, ledger->prices[11 * region + market], ledger->counts[region], ledger->window, price, ledger->threshold);
+    return left;
+}
+
+/* 10, of the fields that the book has once. */
+static int fields_bad(const guxhamole_book *book)
+{
+    return outside(book->regions, 1, 8) || book->services > 10 || outside(book->window, 1, 2016) || outside(book->halves, 1, 48) ||
+           book->position >= 6 * book->halves || outside(book->threshold, 1, 100000000000) || outside(book->cap, 1, 10000000) ||
+           outside(book->floor, -10000000, -1) || book->entries > 10000000;
+}
+
+/* 10, of a region. An unused one has no parent and counts nothing. */
+static int region_bad(const guxhamole_book *book, unsigned region)
+{
+    unsigned parent = book->parents[region], count = book->counts[region], place = book->nexts[region];
+    if (region >= book->regions)
+        return parent != 255 || count != 0 || place != 0;
+    if ((parent != 255 && parent >= region) || count > book->window || count > book->entries)
+        return 1;
+    return count < book->window ? place != count : place >= book->window;
+}
+
+/* 10, of a market. */
+static int market_bad(const guxhamole_book *book, unsigned region, unsigned market)
+{
+    int64_t sum = book->sums[11 * region + market];
+    unsigned mark = book->marks[11 * region + market];
+    if (region >= book->regions || market > book->services)
+        return sum != 0 || mark != 0;
+    return outside(sum, -20160000000, 20160000000) || mark > 1;
+}
+
+static int book_bad(const guxhamole_book *book)
+{
+    int bad = fields_bad(book);
+    for (unsigned region = 0; region < 8; region++) {
+        bad |= region_bad(book, region);
+        for (unsigned market = 0; market < 11; market++)
+            bad |= market_bad(book, region, market);
+    }
+    return bad;
+}
+
+/* A market's counted prices, oldest first, from the latest back: it stands before the next place, and place 0 comes after the last.
+   Answers how many. */
+static size_t counted_prices(const guxhamole_book *book, const int32_t *ring, unsigned region, unsigned market, int32_t *prices)
+{
+    const int32_t *window = ring + (region * (book->services + (size_t)1) + market) * book->window;
+    size_t count = book->counts[region], place = book->nexts[region];
+    for (size_t i = count; i > 0; i--) {
+        place = (place == 0 ? book->window : place) - 1;
+        prices[i - 1] = window[place];
+    }
+    return count;
+}
+
+/* 22, of a market. */
+static int window_bad(const guxhamole_book *book, const int32_t *ring, unsigned region, unsigned market)
+{
+    static int32_t prices[2016];
+    int bad = 0;
+    size_t count = counted_prices(book, ring, region, market, prices);
+    for (size_t i = 0; i < count; i++)
+        bad |= price_bad(market, prices[i]);
+    return bad || window_sum(prices, count, count) != book->sums[11 * region + market];
+}
+
+static int any_window_bad(const guxhamole_book *book, const int32_t *ring)
+{
+    int bad = 0;
+    for (unsigned region = 0; region < book->regions; region++)
+        for (unsigned market = 0; market <= book->services; market++)
+            bad |= window_bad(book, ring, region, market);
+    return bad;
+}
+
+struct independent_left independent_intervals_left(const guxhamole_book *book, const int32_t *ring, size_t length, uint32_t region,
+                                                   uint32_t market, int32_t price)
+{
+    static int32_t prices[2 * 2016];
+    struct independent_left left;
+    memset(&left, 0, sizeof left);
+    left.holds[HOLDS_BOOK] = book_bad(book);
+    if (!left.holds[HOLDS_BOOK]) {
+        left.holds[HOLDS_LENGTH] = length != book->regions * (book->services + (size_t)1) * book->window;
+        left.holds[HOLDS_MARKET] = region >= book->regions || market > book->services;
+        left.holds[HOLDS_SUMS] = !left.holds[HOLDS_LENGTH] && any_window_bad(book, ring);
+        left.holds[HOLDS_PRICE] = price_bad(market, price);
+    }
+    refuse(&left);
+    left.elsewhere = left.number == 22 && !window_bad(book, ring, region, market);
+    if (left.number == 0) {
+        size_t count = counted_prices(book, ring, region, market, prices);
+        enter_copies(&left, prices, count, book->window, price, book->threshold);
+    }
+    return left;
+}
