@@ -131,8 +131,8 @@ static void put_bad(FILE *out)
     static const char *const bad[] = {
         "", " save", "save now", "Save", "threshold", "threshold 12x", "threshold 9223372036854775808", "threshold --1",
         "threshold 1e6", "threshold 0x10", "limits 60000", "limits 60000 -2147483649", "limits 60000 -60000 0", "report 0",
-        "report -1 0", "report 4294967296 0", "interval 0 0 1 2 3", "interval", "schedule 5 0 0", "schedule 3 0 2",
-        "records", "records 0", "records 0x0 file", "records 0 /no/such/file"};
+        "report -1 0", "report 4294967296 0", "left 0 0", "left 0 0 2147483648", "interval 0 0 1 2 3", "interval",
+        "schedule 5 0 0", "schedule 3 0 2", "records", "records 0", "records 0x0 file", "records 0 /no/such/file"};
     fprintf(out, "%s\n", bad[below(sizeof bad / sizeof *bad)]);
     if (below(4) == 0)
         fprintf(out, "report %*d\n", LINE_MOST, 0);
@@ -151,6 +151,16 @@ static void put_settings(FILE *out)
         feed_line(out, &line);
 }
 
+/* A question whose answer hangs on which price is the oldest: a box that was started again has its windows at other places of the
+   ring than the one that was killed, and must answer the same. */
+static void put_left(FILE *out)
+{
+    struct line line = plain_line(LINE_LEFT);
+    line.region = (uint32_t)within(0, REGIONS);
+    line.price = below(8) == 0 ? 10000001 : within(-20000, 60000);
+    feed_line(out, &line);
+}
+
 static void put_others(FILE *out, uint32_t number)
 {
     struct line line = plain_line(LINE_REPORT);
@@ -158,6 +168,7 @@ static void put_others(FILE *out, uint32_t number)
     line.market = (uint32_t)within(0, MARKETS);
     if (below(3) == 0)
         feed_line(out, &line);
+    put_left(out);
     struct line refused = refused_interval(number);
     if (below(4) == 0)
         feed_line(out, &refused);
