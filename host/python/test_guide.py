@@ -60,6 +60,20 @@ class Stage:
             period = int(report.administered)
             self.printed.append(f"report {amount_text(report.sum)} {report.counted} {period} {report.entries}")
 
+    def question(self, asked):
+        """A ring of a wrong length is lent as it is, which a `Book` by itself doesn't do."""
+        own = self.book._ring
+        if len(own) != self.lent["a"][0]:
+            self.book._ring = self.ring()
+        left = self.called("left", self.book.intervals_left, *asked)
+        self.book._ring = own
+        if left is not None:
+            self.printed.append(f"left {left}")
+
+    def jot(self, given):
+        place, price = given
+        self.book._ring[place] = price
+
     def break_ring(self, _):
         """As others might: the first sum at its bound, the ring's first place the least number."""
         self.book._book.sums[0] = 20_160_000_000
@@ -68,6 +82,7 @@ class Stage:
     def line(self, line):
         calls = {
             "o": self.open, "e": self.enter, "r": self.report, "b": self.break_ring,
+            "q": self.question, "j": self.jot,
             "t": lambda given: self.called("threshold", self.book.set_threshold, *given),
             "c": lambda given: self.called("limits", self.book.set_limits, *given),
             "v": lambda _: self.printed.append(" " + amount_text(self.book._book.sums[0])),
