@@ -205,6 +205,42 @@ impl Book {
         })
     }
 
+    /// How many more intervals at a price it takes until a market's sum exceeds the threshold as it is now: the least number,
+    /// 1 to W, and 0 exactly if none of 1 to W does. In each of them the region is unmarked and the market gets that price; the
+    /// oldest counted prices leave as they would. Whether the sum exceeds the threshold already is another question
+    /// ([`Book::report`]). The ring is read alone. 10, 11, 21, 22, 43.
+    ///
+    /// ```
+    /// # use guxhamole::{Book, Entry, Refusal, Settings};
+    /// // One region, energy alone, a window of five prices.
+    /// let settings = Settings { regions: 1, services: 0, window: 5, halves: 1, threshold: 10_000, ..Settings::default() };
+    /// let settings = Settings { parents: [255; 8], ..settings };
+    /// let mut ring = [0; 5];
+    /// let mut book = Book::open(settings, &mut ring)?;
+    /// # let (marks, flows, factors, schedule) = ([0], [0], [10_000], [0; 2]);
+    /// # let (marks, flows, factors, schedule) = (&marks, &flows, &factors, &schedule);
+    /// # let entry = Entry { number: 0, day_kind: 0, prices: &[4_000], marks, flows, factors, schedule };
+    /// book.enter(&mut ring, entry, &mut [0])?;
+    ///
+    /// // The sums would be 6,000, 8,000, 10,000 and 12,000: to reach the threshold is not to exceed it.
+    /// assert_eq!(book.intervals_left(&ring, 0, 0, 2_000), Ok(4));
+    /// // 5,500, 7,000, 8,500, 10,000; then the 4,000 leave, and it is 7,500.
+    /// assert_eq!(book.intervals_left(&ring, 0, 0, 1_500), Ok(0));
+    /// assert_eq!(book.intervals_left(&ring, 0, 0, 10_000_001), Err(Refusal::AskedPrice));
+    /// # Ok::<(), Refusal>(())
+    /// ```
+    pub fn intervals_left(
+        &self,
+        ring: &[i32],
+        region: u32,
+        market: u32,
+        price: i32,
+    ) -> Result<u32, Refusal> {
+        let left = raw::intervals_left(self.0, ring, region, market, price);
+        Refusal::unless_accepted(left.number, 0)?;
+        Ok(left.intervals)
+    }
+
     /// Writes the book and its counted prices as an image: its length in bytes. The bytes after it stay. 10, 11, 22, 23.
     ///
     /// ```

@@ -3,7 +3,8 @@
 //!
 //! Proved of each function, for all arguments: it ends, reads and writes only what it is lent, keeps no pointer and no state of
 //! its own, and its whole outcome is that of the definitions of document 01, and of document 02 for interval records
-//! ([`Book::read_interval`], [`Book::write_interval`]). A refused call changes nothing.
+//! ([`Book::read_interval`], [`Book::write_interval`]) and for the intervals left ([`Book::intervals_left`]). A refused call
+//! changes nothing.
 //!
 //! # What the host must do
 //!
@@ -12,12 +13,13 @@
 //!
 //! - hands each call the book that the call before left: it keeps one [`Book`], from [`Book::open`] or [`Book::load`], and calls
 //!   its methods; it neither goes back to an older copy nor puts a book together from bytes or fields;
-//! - lends each entry and each store the ring that the book was opened or loaded with, and lets nothing but these calls write it;
+//! - lends each entry, each store and each question for the intervals left the ring that the book was opened or loaded with, and
+//!   lets nothing but these calls write it;
 //! - restarts by [`Book::store`] and, from exactly the image's bytes, [`Book::load`] into another ring, and goes on with the
 //!   book and ring that the load left.
 //!
 //! A host that breaks these rules still has safe calls: a damaged book is refused by 10, a ring that isn't the book's by 22 when
-//! it is stored, a damaged image by 24 to 27 or 16. What keeps its form, such as an older copy, may go unnoticed.
+//! it is stored or asked about, a damaged image by 24 to 27 or 16. What keeps its form, such as an older copy, may go unnoticed.
 //!
 //! # An interval
 //!

@@ -95,6 +95,15 @@ pub struct Found {
     pub day_kind: u32,
 }
 
+/// The answer of a question for the intervals left.
+#[repr(C)]
+#[derive(Clone, Copy, Debug, PartialEq, Eq)]
+#[allow(missing_docs)]
+pub struct Left {
+    pub number: u32,
+    pub intervals: u32,
+}
+
 /// The answer of the schedule maker.
 #[repr(C)]
 #[derive(Clone, Copy, Debug, PartialEq, Eq)]
@@ -132,6 +141,7 @@ const _: () = {
     assert!(size_of::<Found>() == 24 && offset_of!(Found, number) == 0);
     assert!(offset_of!(Found, next) == 8 && offset_of!(Found, entry) == 16);
     assert!(offset_of!(Found, day_kind) == 20);
+    assert!(size_of::<Left>() == 8 && offset_of!(Left, intervals) == 4);
     assert!(size_of::<Rows>() == 400 && offset_of!(Rows, place) == 8);
     assert!(offset_of!(Rows, weekday) == 16 && offset_of!(Rows, weekend) == 208);
 };
@@ -157,7 +167,7 @@ impl Book {
 }
 
 mod face {
-    use super::{Book, Entered, Found, Kept, Reading, Rows, Settings, Stored};
+    use super::{Book, Entered, Found, Kept, Left, Reading, Rows, Settings, Stored};
 
     extern "C" {
         pub fn guxhamole_open(settings: Settings, ring: *mut i32, ring_length: usize) -> Kept;
@@ -225,6 +235,14 @@ mod face {
             buffer: *mut u8,
             buffer_length: usize,
         ) -> Stored;
+        pub fn guxhamole_intervals_left(
+            book: Book,
+            ring: *const i32,
+            ring_length: usize,
+            region: u32,
+            market: u32,
+            price: i32,
+        ) -> Left;
         pub fn guxhamole_schedule(
             halves: u8,
             cap: i32,
@@ -386,6 +404,13 @@ pub fn interval_write(book: Book, interval: crate::Interval<'_>, buffer: &mut [u
             buffer.len(),
         )
     }
+}
+
+/// "43: a price outside the entry range, tested after 10, 11, 21 and store's 22".
+pub fn intervals_left(book: Book, ring: &[i32], region: u32, market: u32, price: i32) -> Left {
+    let (places, length) = (ring.as_ptr(), ring.len());
+    // SAFETY: the slices are as said above.
+    unsafe { face::guxhamole_intervals_left(book, places, length, region, market, price) }
 }
 
 /// "Maker: 31 H or lengths; 32 kind not 0 or 1, or one kind missing; 19; 16 with place." 0 is a service, anything else energy.

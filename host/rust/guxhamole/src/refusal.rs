@@ -38,7 +38,7 @@ pub enum Refusal {
     Limits,
     /// 20: a setting of the opening.
     Setting,
-    /// 21: the region or the market of a report.
+    /// 21: the region or the market of a report, or of a question for the intervals left.
     Market,
     /// 22: a counted price of the ring is out of range, or a sum isn't the total of its prices.
     Sums,
@@ -66,6 +66,8 @@ pub enum Refusal {
     RecordKind,
     /// 42: a record is of a region from R up, or of one that was given before.
     RecordRegion,
+    /// 43: the price asked about is out of its market's range.
+    AskedPrice,
     /// A number that this crate doesn't know: the archive is a later one ([`crate::abi`]).
     Other(u32),
 }
@@ -100,6 +102,7 @@ impl Refusal {
             40 => Refusal::Broken,
             41 => Refusal::RecordKind,
             42 => Refusal::RecordRegion,
+            43 => Refusal::AskedPrice,
             _ => Refusal::Other(number),
         }
     }
@@ -159,6 +162,7 @@ impl Refusal {
                 "a record's kind, or a head's region total, that doesn't belong there",
             ),
             Refusal::RecordRegion => (42, "a record of a region from R up or given before"),
+            Refusal::AskedPrice => (43, "a price asked about, out of its market's range"),
             Refusal::Other(number) => (number, "a refusal of a later archive"),
         }
     }
@@ -188,7 +192,7 @@ mod tests {
             assert_eq!(refusal.number(), number);
             let placed = (15..=17).contains(&number);
             assert_eq!(refusal.place(), placed.then_some(7));
-            let known = [10..=27, 30..=33, 40..=42];
+            let known = [10..=27, 30..=33, 40..=43];
             let known = known.iter().any(|numbers| numbers.contains(&number));
             assert_eq!(refusal == Refusal::Other(number), !known);
         }
