@@ -196,7 +196,7 @@ impl Book {
 
     /// Step 5: "Each unmarked region's entry prices, never the capped ones, join its windows; the oldest leaves once W are
     /// counted." With a ring that others changed "sums then move by price in less the price read there".
-    fn join(&mut self, region: usize, ring: &mut [i32], prices: &[i32]) {
+    pub(crate) fn join(&mut self, region: usize, ring: &mut [i32], prices: &[i32]) {
         let shape = self.shape();
         let (count, next) = (self.counts[region], usize::from(self.nexts[region]));
         for market in 0..shape.markets() {
@@ -264,12 +264,9 @@ impl Book {
         places.map(|place| ring[place]).collect()
     }
 
-    /// "Store: 10; 11; 22 a counted price out of range or a total that isn't its sum; 23 buffer shorter than the image. Bytes
-    /// after the image stay." Answers the image's length.
-    pub fn store(&self, ring: &[i32], buffer: &mut [u8]) -> Result<usize, Refusal> {
-        self.sound()?;
+    /// "22 a counted price out of range or a total that isn't its sum", over all markets: their counted prices, oldest first.
+    pub(crate) fn all_counted(&self, ring: &[i32]) -> Result<Vec<i32>, Refusal> {
         let shape = self.shape();
-        unless(ring.len() == shape.ring(), 11)?;
         let mut prices = Vec::new();
         for region in 0..shape.regions {
             for market in 0..shape.markets() {
@@ -280,6 +277,14 @@ impl Book {
                 prices.extend(counted);
             }
         }
+        Ok(prices)
+    }
+
+    /// "Store: 10; 11; 22 …; 23 buffer shorter than the image. Bytes after the image stay." Answers the image's length.
+    pub fn store(&self, ring: &[i32], buffer: &mut [u8]) -> Result<usize, Refusal> {
+        self.sound()?;
+        unless(ring.len() == self.shape().ring(), 11)?;
+        let prices = self.all_counted(ring)?;
         let image = self.fields(prices).bytes();
         unless(buffer.len() >= image.len(), 23)?;
         buffer[..image.len()].copy_from_slice(&image);

@@ -2,8 +2,9 @@
 //! this form to it on small books. No window moves here either: a sum is the difference of two totals over all of a market's
 //! prices.
 
-use crate::ledger::{Event, Start};
+use crate::ledger::{Entry, Event, Start};
 use crate::rules::{Settings, Shape};
+use std::iter::repeat_with;
 
 #[derive(Clone, Debug, PartialEq, Eq)]
 pub(crate) struct Cache {
@@ -94,6 +95,25 @@ impl Cache {
 
     pub fn sum(&self, shape: &Shape, region: usize, market: usize) -> i128 {
         self.market(shape, region, market).sum(shape.window)
+    }
+
+    /// A market's sums after one further entry, after two and so on: its prices are copied, and the copy counts on.
+    pub fn sums_to_come(
+        &self,
+        shape: &Shape,
+        region: usize,
+        market: usize,
+        further: &Entry,
+    ) -> impl Iterator<Item = i128> {
+        let (place, window) = (shape.place(region, market), shape.window);
+        let (marked, price) = (further.marks[region] == 1, further.prices[place]);
+        let mut copy = self.markets[place].clone();
+        repeat_with(move || {
+            if !marked {
+                copy.count(price);
+            }
+            copy.sum(window)
+        })
     }
 
     /// "some j < t triggers it and no i with j ≤ i < t releases it": if any such j there is, the last one that triggers is one,

@@ -6,6 +6,7 @@ use crate::checking::{entry_refusal, market_of};
 use crate::image;
 use crate::publishing::{publish, Published};
 use crate::rules::*;
+use std::iter::repeat_with;
 
 /// What an entry lends, but for ring and table.
 #[derive(Clone, Debug, PartialEq, Eq)]
@@ -171,6 +172,26 @@ impl Ledger {
             None => {
                 let past = self.past();
                 past.sum_before(region, market, past.entries.len())
+            }
+        }
+    }
+
+    /// A market's sums after one further entry, after two and so on, without end. Nobody makes these entries: they join the past
+    /// that this question looks at and not the ledger, so that no bound on entries stops them.
+    pub(crate) fn sums_to_come<'a>(
+        &'a self,
+        region: usize,
+        market: usize,
+        further: &'a Entry,
+    ) -> Box<dyn Iterator<Item = i128> + 'a> {
+        match &self.cache {
+            Some(cache) => Box::new(cache.sums_to_come(&self.shape, region, market, further)),
+            None => {
+                let mut past = self.past();
+                Box::new(repeat_with(move || {
+                    past.entries.push(further);
+                    past.sum_before(region, market, past.entries.len())
+                }))
             }
         }
     }

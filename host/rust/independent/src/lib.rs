@@ -1,7 +1,8 @@
 //! Document 01 written a second time, from the paper alone, and a player of docs/RECORDS.md over it. It shares no
 //! definition and no code with the proved book: the ledger keeps the whole history and recomputes every sum, count,
 //! position and period from it, and limits go over every route one by one. Beside it stand a cache of what it recomputes,
-//! for windows of thousands of prices, and the book as a host keeps it, with its ring; and document 02's interval records.
+//! for windows of thousands of prices, and the book as a host keeps it, with its ring; and document 02's interval records and
+//! intervals left.
 //! Quotations are document 01's unless a file says otherwise.
 
 pub mod amount;
@@ -13,6 +14,7 @@ pub mod image;
 pub mod index;
 pub mod interval;
 pub mod ledger;
+mod left;
 pub mod maker;
 pub mod player;
 pub mod publishing;
