@@ -3,6 +3,7 @@
 pub mod books;
 pub mod cutting;
 pub mod intervals;
+pub mod left;
 pub mod lent;
 pub mod playing;
 pub mod replay;
