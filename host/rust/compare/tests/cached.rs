@@ -1,7 +1,7 @@
 //! The cached ledger against the plain one, which is the definition, on small books.
 
 use compare::{rounds, say};
-use generator::{calls, images, Random};
+use generator::{calls, images, questions, Random};
 use independent::image::Fields;
 use independent::Ledger;
 
@@ -15,7 +15,7 @@ fn any_ledger(random: &mut Random) -> Ledger {
     Ledger::load(&image, ring).expect("a valid image")
 }
 
-/// Every answer, and after every call every report, the settings, the position and the image.
+/// Every answer, and after every call every report, the settings, the position, the image and some questions for the intervals left.
 #[test]
 fn answers_alike() {
     let (mut played, mut begun, mut ended) = (0u64, 0u64, 0u64);
@@ -39,6 +39,7 @@ fn answers_alike() {
                     ended += u64::from(before > now);
                 }
                 played += 1;
+                questions_alike(&mut random, &plain, &cached);
             }
             all_reports_alike(&plain, &cached);
             // A cache that begins later remembers the same.
@@ -62,5 +63,18 @@ fn all_reports_alike(plain: &Ledger, cached: &Ledger) {
             let report = plain.report(region as u32, market as u32);
             assert_eq!(report, cached.report(region as u32, market as u32));
         }
+    }
+}
+
+fn questions_alike(random: &mut Random, plain: &Ledger, cached: &Ledger) {
+    // A window of a week takes the plain ledger long.
+    for _ in 0..if plain.shape().window > 40 { 0 } else { 2 } {
+        let asked = questions::question(random, plain);
+        let (ring, region, market) = (asked.ring, asked.region, asked.market);
+        assert_eq!(
+            plain.intervals_left(ring, region, market, asked.price),
+            cached.intervals_left(ring, region, market, asked.price),
+            "{asked:?}"
+        );
     }
 }

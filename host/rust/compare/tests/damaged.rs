@@ -3,8 +3,9 @@
 
 use compare::playing::{Playing, Start};
 use compare::typed::{paper, Pair};
-use compare::{books, intervals, rounds, say};
+use compare::{books, intervals, left, rounds, say};
 use generator::intervals::{Reading, Writing};
+use generator::questions::Question;
 use generator::{calls, images, Random};
 use guxhamole::{raw, Book};
 use independent::book::FAULTS;
@@ -65,6 +66,24 @@ impl Met {
             self.call(&mut pair, &call);
         }
         self.interval(book);
+        let number = self.question(book, ring);
+        let fault = paper(book).fault();
+        assert_eq!(number == 10, fault.is_some(), "{book:?}: {fault:?}");
+    }
+
+    /// A question for the intervals left, of the last market: the refusal's number, or 0.
+    fn question(&mut self, book: &raw::Book, ring: &[i32]) -> u32 {
+        let question = Question {
+            ring: ring.len(),
+            region: book.regions.wrapping_sub(1).into(),
+            market: book.services.into(),
+            price: 100,
+        };
+        let answer = left::ask(book, ring, &question);
+        let number = answer.err().map_or(0, |refusal| refusal.number);
+        self.calls += 1;
+        *self.answers.entry(number).or_default() += 1;
+        number
     }
 
     /// An interval written and read by a book of any fields, which both say 10 exactly where rule 10 does.
@@ -367,8 +386,8 @@ fn foreign(random: &mut Random, ring: &[i32], other: &[i32]) -> Vec<i32> {
     foreign
 }
 
-/// "22 a counted price out of range or a total that isn't its sum", after 10 and 11 and before 23; "sums then move by price in
-/// less the price read there, and periods by step 6".
+/// "22 a counted price out of range or a total that isn't its sum", after 10 and 11 and before 23, and of a question exactly where
+/// it is a store's; "sums then move by price in less the price read there, and periods by step 6".
 #[test]
 fn foreign_rings() {
     let mut met = Met::default();
@@ -381,6 +400,8 @@ fn foreign_rings() {
                 let ring = foreign(&mut random, ring, other.kept().1);
                 let mut pair = Pair::of(*book, &ring);
                 let whole = 148 + 4 * ring.len();
+                let stored = met.call(&mut pair.clone(), &Call::Restart(whole, ring.len()));
+                assert_eq!(met.question(book, &ring), stored, "a question's 22");
                 let buffer = random.pick(&[whole, whole, whole, 147, 147, 148]);
                 met.call(&mut pair, &Call::Restart(buffer, ring.len()));
                 for _ in 0..random.between(1, 4) {
