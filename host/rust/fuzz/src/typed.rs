@@ -34,14 +34,15 @@ pub fn run(room: &mut [Pages], data: &[u8]) -> Met {
         if bytes.is_empty() {
             break;
         }
-        let (name, number) = match bytes.byte() % 12 {
+        let (name, number) = match bytes.byte() % 14 {
             0..=4 => ("entry", kept.enter(room, &mut bytes, at_end)),
             5 => ("threshold", kept.set_threshold(&mut bytes)),
             6 => ("limits", kept.set_limits(&mut bytes)),
             7 => ("report", kept.report(&mut bytes)),
             8 | 9 => ("restart", kept.restart(room, &mut bytes, at_end)),
             10 => ("schedule", schedule(room, &mut bytes, at_end)),
-            _ => ("text and index", text_and_index(room, &mut bytes, at_end)),
+            11 => ("text and index", text_and_index(room, &mut bytes, at_end)),
+            _ => ("intervals left", kept.ask(room, &mut bytes, at_end)),
         };
         assert_eq!(paper(kept.book.raw()), kept.paper, "book after {name}");
         met.push((name, number));
@@ -66,6 +67,14 @@ fn lengths(book: &raw::Book) -> (usize, usize, usize, usize) {
 /// Limits; zeros in the bytes are the real market's.
 fn limits(bytes: &mut Bytes) -> (i32, i32) {
     (60_000 ^ bytes.i32(), -60_000 ^ bytes.i32())
+}
+
+/// A small number, or any by bytes from 128 on.
+fn small(bytes: &mut Bytes) -> u32 {
+    match bytes.byte() {
+        few @ 0..=127 => few.into(),
+        _ => bytes.u32(),
+    }
 }
 
 /// A few numbers from the bytes, which repeat up to a length; none is a zero.
@@ -271,6 +280,22 @@ impl Kept {
         });
         assert_eq!(reported, self.paper.report(region, market), "report");
         number(&reported)
+    }
+
+    /// A question for the intervals left, lent about the book's ring; zeros ask of region 0's energy, at the threshold's share of a
+    /// window.
+    fn ask(&self, room: &mut [Pages], bytes: &mut Bytes, at_end: bool) -> u32 {
+        let (region, market) = (small(bytes), small(bytes));
+        let share = self.book.threshold() / i64::from(self.book.window().max(1));
+        let price = share.clamp(-10_000_000, 10_000_000) as i32 ^ bytes.i32();
+        let mut contents = self.ring.clone();
+        contents.resize(bytes.length(contents.len()), 0);
+        let ring = room[0].hold(&contents, at_end);
+        let left = told(self.book.intervals_left(ring.lent, region, market, price));
+        let expected = self.paper.intervals_left(&contents, region, market, price);
+        assert_eq!(left, expected, "intervals left");
+        assert!(ring.holds(&contents), "ring after a question");
+        number(&left)
     }
 
     /// A store into a buffer that is about long enough, and a load of exactly the image.
