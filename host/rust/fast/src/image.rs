@@ -45,14 +45,14 @@ impl Book {
 
     /// The counted prices of the window at a place among R × M.
     #[inline]
-    fn counted_of<'a>(&self, place: usize, window: &'a [i32]) -> (&'a [i32], &'a [i32]) {
+    pub(crate) fn counted_of<'a>(&self, place: usize, window: &'a [i32]) -> (&'a [i32], &'a [i32]) {
         let region = place / self.markets();
         let (count, next) = (self.counts[region].into(), self.nexts[region].into());
         counted(window, count, next)
     }
 
     /// What 22 tests.
-    fn counted_right(&self, ring: &[i32]) -> bool {
+    pub(crate) fn counted_right(&self, ring: &[i32]) -> bool {
         let markets = self.markets();
         let mut windows = ring.chunks_exact(usize::from(self.window)).enumerate();
         windows.all(|(place, window)| {

@@ -1,6 +1,6 @@
 //! Document 01's book by hand, for speed: the baseline that the proved functions are measured against. Running sums,
-//! lent slices, no allocation; rule 10 and every other refusal at every call, as there. Document 02's interval records beside
-//! it. Quotations are document 01's unless a file says otherwise.
+//! lent slices, no allocation; rule 10 and every other refusal at every call, as there. Document 02's interval records and
+//! intervals left beside it. Quotations are document 01's unless a file says otherwise.
 
 #![no_std]
 #![forbid(unsafe_code)]
@@ -10,6 +10,7 @@ mod bytes;
 pub mod entry;
 pub mod image;
 pub mod interval;
+mod left;
 mod publishing;
 mod replay;
 

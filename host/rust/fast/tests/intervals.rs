@@ -1,30 +1,12 @@
 //! Interval records, read and written by the fast book, against `independent`: every answer, the slices and the buffer.
 
+mod fields;
+
 use fast::interval::{Interval, IntervalMut};
-use fast::Book;
+use fields::book_of;
 use generator::intervals::{self, Reading, Writing};
 use generator::Random;
 use std::collections::BTreeMap;
-
-/// The fields of an independent book in the fast one's record.
-fn book_of(book: &independent::book::Book) -> Book {
-    Book {
-        regions: book.regions,
-        services: book.services,
-        window: book.window,
-        halves: book.halves,
-        parents: book.parents,
-        threshold: book.threshold,
-        cap: book.cap,
-        floor: book.floor,
-        entries: book.entries,
-        position: book.position,
-        counts: book.counts,
-        nexts: book.nexts,
-        sums: book.sums,
-        marks: book.marks,
-    }
-}
 
 /// Reads by both: the number that both answer.
 fn read(reading: &Reading) -> u32 {

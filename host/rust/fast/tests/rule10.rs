@@ -70,6 +70,7 @@ fn all_refuse(spoil: impl Fn(&mut Book)) {
         factors: &mut [0; 2],
     };
     assert_eq!(book.read_interval(&[], 0, slices), Err(refused));
+    assert_eq!(book.intervals_left(&ring, 0, 0, 0), Err(refused));
     assert_eq!((book, ring), before);
 }
 
@@ -153,6 +154,31 @@ fn spoilt_rings() {
     assert_eq!(store(&book, &shifted, 180), Err(22));
     book.sums[11] += 1;
     assert_eq!(store(&book, &ring, 180), Err(22));
+}
+
+/// A question's refusals: 11, 21, the store's 22 of any market, then 43.
+#[test]
+fn questions() {
+    let (mut book, ring) = sound();
+    let ask = |book: &Book, ring: &[i32], region: u32, market: u32, price: i32| {
+        let left = book.intervals_left(ring, region, market, price);
+        left.map_err(|refusal| refusal.number)
+    };
+    let beyond = 10_000_001;
+    assert_eq!(ask(&book, &ring, 0, 0, 47_501), Ok(2));
+    assert_eq!(ask(&book, &ring, 0, 0, 47_500), Ok(0));
+    assert_eq!(ask(&book, &ring[..7], 2, 0, beyond), Err(11));
+    let mut spoilt = ring;
+    spoilt[7] = 401;
+    for (region, market) in [(2, 0), (0, 2), (u32::MAX, u32::MAX)] {
+        assert_eq!(ask(&book, &spoilt, region, market, beyond), Err(21));
+    }
+    assert_eq!(ask(&book, &spoilt, 0, 0, beyond), Err(22));
+    for (market, price) in [(0, beyond), (0, -beyond), (1, beyond), (1, -1)] {
+        assert_eq!(ask(&book, &ring, 1, market, price), Err(43));
+    }
+    book.sums[12] += 1;
+    assert_eq!(ask(&book, &ring, 0, 0, 0), Err(22));
 }
 
 /// With a ring that others changed, a sum moves by the price in, less the price read once the window is full.
