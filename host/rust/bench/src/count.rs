@@ -1,12 +1,15 @@
 //! Calls to be counted by instructions rather than timed: `bench count proved|fast` and, where it is not the real market's free
-//! entry, the words `small`, `administered`, `report`, `store`, `load`, or `read`, `shuffled` and `write` of interval records. Under
-//! callgrind's `--toggle-collect='*count::counted*'` the calls themselves are counted, on a book whose window is full.
+//! entry, the words `small`, `administered`, `report`, `store`, `load`, `question`, or `read`, `shuffled` and `write` of interval
+//! records. Under callgrind's `--toggle-collect='*count::counted*'` the calls themselves are counted, on a book whose window is full.
 
 use crate::intervals::{self, Day, Recorded, Room};
 use crate::lists::{Market, Trade, Trading};
 use crate::typed::{Host, Typed, CALLS};
 
 use std::hint::black_box;
+
+/// A question for the intervals left; of a free book none of W is the answer.
+const QUESTION: &str = "question";
 
 /// How many calls are counted.
 const TIMES: usize = 1_000;
@@ -28,7 +31,7 @@ pub fn run(real: &Market, small: &Market, words: &[&str]) -> Option<()> {
     };
     for &word in words {
         let records = intervals::CALLS.map(|(name, _)| name);
-        let mut known = CALLS.into_iter().chain(records);
+        let mut known = CALLS.into_iter().chain([QUESTION]).chain(records);
         match word {
             "small" => counting.market = *small,
             "administered" => counting.trade = Trade::Administered,
@@ -72,6 +75,7 @@ fn counted<B: Typed>(host: &mut Host<B>, trading: &Trading, call: &str, image: u
         "report" => repeated(|| host.report(0)),
         "store" => repeated(|| host.store()),
         "load" => repeated(|| host.load(image)),
+        QUESTION => repeated(|| host.ask(0, 0, 8_000)),
         _ => {
             black_box(host.enter(trading, full..full + TIMES));
         }

@@ -1,12 +1,13 @@
-//! Measures the proved functions beside the hand-written ones: the typed calls over the same slices, interval records, then the
-//! replay on the same bytes, entries, restarts, and whether an entry's cost grows with the window or with the history. The one
-//! argument is the number of rounds; `intervals` leaves all but the interval records out, and `count ..` makes calls to be counted
-//! by instructions. docs/PERFORMANCE.md says how to read the tables.
+//! Measures the proved functions beside the hand-written ones: the typed calls over the same slices, interval records, questions
+//! for the intervals left, then the replay on the same bytes, entries, restarts, and whether an entry's cost grows with the window
+//! or with the history. The one argument is the number of rounds; `intervals` leaves all but the interval records out, `questions`
+//! all but the questions, and `count ..` makes calls to be counted by instructions. docs/PERFORMANCE.md says how to read the tables.
 
 mod clock;
 mod count;
 mod intervals;
 mod lists;
+mod questions;
 mod tables;
 mod timing;
 mod typed;
@@ -48,13 +49,15 @@ fn main() {
         ["count", ref rest @ ..] => count::run(&REAL, &SMALL, rest),
         ["intervals"] => some_rounds("", interval_records),
         ["intervals", rounds] => some_rounds(rounds, interval_records),
+        ["questions"] => some_rounds("", intervals_left),
+        ["questions", rounds] => some_rounds(rounds, intervals_left),
         [] => some_rounds("", all_tables),
         [rounds] => some_rounds(rounds, all_tables),
         _ => None,
     };
     if done.is_none() {
-        eprintln!("bench [intervals] [ROUNDS]");
-        eprintln!("bench count proved|fast [small] [administered] [report|store|load|read|shuffled|write]");
+        eprintln!("bench [intervals|questions] [ROUNDS]");
+        eprintln!("bench count proved|fast [small] [administered] [report|store|load|question|read|shuffled|write]");
         std::process::exit(2);
     }
 }
@@ -73,6 +76,7 @@ fn some_rounds(rounds: &str, tables: fn(usize)) -> Option<()> {
 fn all_tables(rounds: usize) {
     typed_calls(rounds);
     interval_records(rounds);
+    intervals_left(rounds);
     steady(rounds);
     history(rounds);
     restarts(rounds);
@@ -117,9 +121,31 @@ fn interval_records(rounds: usize) {
     for (name, _, costs) in &rows {
         tables::row(name, costs);
     }
-    tables::rate_head("interval records, millions of bytes a second");
+    tables::two_head("interval records, millions of bytes a second");
     for (name, bytes, costs) in &rows {
         tables::rate_row(name, *bytes, costs);
+    }
+}
+
+/// Questions of a book whose window is full, beside its store; and what a question takes over a store, a step of the window.
+fn intervals_left(rounds: usize) {
+    let mut rows = Vec::new();
+    for market in [REAL, SMALL] {
+        for window in [1, 288, 2_016] {
+            let market = Market { window, ..market };
+            rows.push((market, questions::measure(&market, rounds)));
+        }
+    }
+    tables::head("questions for the intervals left, window full");
+    for (market, costs) in &rows {
+        for (call, costs) in questions::CALLS.iter().zip(costs) {
+            tables::row(&format!("{market}: {call}"), costs);
+        }
+    }
+    tables::two_head("a question, none of W, less a store: a step of W");
+    for (market, costs) in &rows {
+        let step = questions::step_over_store(market, costs);
+        tables::two_row(&market.to_string(), &step);
     }
 }
 

@@ -30,8 +30,11 @@ pub fn head(name: &str) {
     println!("\n{name:<52}{:>22}{:>22}{:>14}", "proved", "fast", "ratio");
 }
 
+fn both(cost: &Cost) -> String {
+    format!("{} ({})", nanoseconds(cost.median), nanoseconds(cost.least))
+}
+
 pub fn row(name: &str, costs: &Costs) {
-    let both = |cost: &Cost| format!("{} ({})", nanoseconds(cost.median), nanoseconds(cost.least));
     let ratio = |proved: f64, fast: f64| format!("{:.1}", proved / fast);
     let ratios = format!(
         "{} ({})",
@@ -42,9 +45,15 @@ pub fn row(name: &str, costs: &Costs) {
     println!("{name:<52}{proved:>22}{fast:>22}{ratios:>14}");
 }
 
-/// The head of rows of millions of bytes a second.
-pub fn rate_head(name: &str) {
+/// The head of rows without a ratio.
+pub fn two_head(name: &str) {
     println!("\n{name:<52}{:>22}{:>22}", "proved", "fast");
+}
+
+/// Nanoseconds whose ratio says nothing: differences, which may be below 0.
+pub fn two_row(name: &str, costs: &Costs) {
+    let (proved, fast) = (both(&costs.proved), both(&costs.fast));
+    println!("{name:<52}{proved:>22}{fast:>22}");
 }
 
 /// Millions of bytes a second, where a call is about so many bytes. The least times are the highest rates.

@@ -25,6 +25,8 @@ pub trait Typed: Clone {
     fn report(&self, region: u32, market: u32) -> (i64, u32, u32, u32);
     fn store(&self, ring: &[i32], image: &mut [u8]) -> usize;
     fn load(image: &[u8], ring: &mut [i32]) -> Self;
+    fn set_threshold(&mut self, threshold: i64);
+    fn intervals_left(&self, ring: &[i32], region: u32, market: u32, price: i32) -> u32;
 }
 
 impl Typed for guxhamole::Book {
@@ -63,6 +65,15 @@ impl Typed for guxhamole::Book {
 
     fn load(image: &[u8], ring: &mut [i32]) -> Self {
         guxhamole::Book::load(image, ring).expect("an accepted load")
+    }
+
+    fn set_threshold(&mut self, threshold: i64) {
+        guxhamole::Book::set_threshold(self, threshold).expect("an accepted threshold")
+    }
+
+    fn intervals_left(&self, ring: &[i32], region: u32, market: u32, price: i32) -> u32 {
+        let left = guxhamole::Book::intervals_left(self, ring, region, market, price);
+        left.expect("an accepted question")
     }
 }
 
@@ -113,6 +124,15 @@ impl Typed for fast::Book {
     fn load(image: &[u8], ring: &mut [i32]) -> Self {
         fast::Book::load(image, ring).expect("an accepted load")
     }
+
+    fn set_threshold(&mut self, threshold: i64) {
+        fast::Book::set_threshold(self, threshold).expect("an accepted threshold")
+    }
+
+    fn intervals_left(&self, ring: &[i32], region: u32, market: u32, price: i32) -> u32 {
+        let left = fast::Book::intervals_left(self, ring, region, market, price);
+        left.expect("an accepted question")
+    }
 }
 
 /// A book and what its host lends, touched before anything is timed.
@@ -149,7 +169,22 @@ impl<B: Typed> Host<B> {
 
     /// A report of a region's energy.
     pub fn report(&self, region: u32) -> (i64, u32, u32, u32) {
-        self.book.report(region, 0)
+        self.report_of(region, 0)
+    }
+
+    /// A report of any market.
+    pub fn report_of(&self, region: u32, market: u32) -> (i64, u32, u32, u32) {
+        self.book.report(region, market)
+    }
+
+    pub fn set_threshold(&mut self, threshold: i64) {
+        self.book.set_threshold(threshold);
+    }
+
+    /// The intervals left of a market at a price.
+    #[inline(always)]
+    pub fn ask(&self, region: u32, market: u32, price: i32) -> u32 {
+        self.book.intervals_left(&self.ring, region, market, price)
     }
 
     /// Stores the book. Answers the image's length.
@@ -223,7 +258,7 @@ pub fn cost(times: impl Iterator<Item = f64>) -> Cost {
 
 /// Both books after the first entries, once every answer of theirs was the same to the last entry: counts, tables, reports,
 /// images, and rings loaded from them.
-fn alike(
+pub fn alike(
     market: &Market,
     trading: &Trading,
     full: usize,
@@ -255,7 +290,7 @@ fn alike(
 fn reports<B: Typed>(market: &Market, host: &Host<B>) -> Vec<(i64, u32, u32, u32)> {
     let markets = u32::from(market.services) + 1;
     (0..market.prices() as u32)
-        .map(|place| host.book.report(place / markets, place % markets))
+        .map(|place| host.report_of(place / markets, place % markets))
         .collect()
 }
 
