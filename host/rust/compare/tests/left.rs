@@ -52,7 +52,7 @@ impl Met {
         self.note(&answer, window);
         if let (Ok(left), 0..=NARROW) = (answer, u32::from(window)) {
             let case = Case::of(playing, question);
-            assert_eq!(case.first(|sum, threshold| sum > threshold), left);
+            assert_eq!(case.first(&case.own_sums()), left);
             for (name, wrong) in WRONG {
                 *self.wrong.entry(name).or_default() += u64::from(wrong(&case) != left);
             }
@@ -146,35 +146,32 @@ impl Case {
             .collect()
     }
 
-    /// The place of the first of some sums that is above the threshold, from 1; 0 if none is.
-    fn first_of(&self, sums: &[i64]) -> u32 {
-        let first = sums.iter().position(|&sum| sum > self.threshold);
-        first.map_or(0, |place| place as u32 + 1)
+    /// The sums as they are.
+    fn own_sums(&self) -> Vec<i64> {
+        self.sums(&self.counted, self.window)
     }
 
-    /// As it is, but for how sum and threshold are compared.
-    fn first(&self, above: fn(i64, i64) -> bool) -> u32 {
-        let sums = self.sums(&self.counted, self.window);
-        let first = sums.iter().position(|&sum| above(sum, self.threshold));
-        first.map_or(0, |place| place as u32 + 1)
+    /// The number of the first of some sums that exceeds the threshold.
+    fn first(&self, sums: &[i64]) -> u32 {
+        numbered(sums.iter().position(|&sum| sum > self.threshold))
     }
 
     /// Where halving the numbers from 1 to W ends.
     fn bisected(&self) -> u32 {
-        let sums = self.sums(&self.counted, self.window);
-        let above = sums.partition_point(|&sum| sum <= self.threshold);
-        if above == self.window {
-            0
-        } else {
-            above as u32 + 1
-        }
+        let sums = self.own_sums();
+        let place = sums.partition_point(|&sum| sum <= self.threshold);
+        numbered((place < self.window).then_some(place))
     }
 
-    /// Whether the sum is above the threshold before any further interval.
-    fn above_now(&self) -> bool {
-        let sum: i64 = self.counted.iter().map(|&price| i64::from(price)).sum();
-        sum > self.threshold
+    /// The sum before any further interval.
+    fn sum_now(&self) -> i64 {
+        self.counted.iter().map(|&price| i64::from(price)).sum()
     }
+}
+
+/// A place among the sums as an answer: from 1, or 0 for none.
+fn numbered(place: Option<usize>) -> u32 {
+    place.map_or(0, |place| place as u32 + 1)
 }
 
 /// A wrong function over a case.
@@ -183,37 +180,39 @@ type Wrong = fn(&Case) -> u32;
 /// Functions that answer something else, by what is wrong with them.
 const WRONG: [(&str, Wrong); 10] = [
     ("reaches", |case| {
-        case.first(|sum, threshold| sum >= threshold)
+        let reaches = |&sum: &i64| sum >= case.threshold;
+        numbered(case.own_sums().iter().position(reaches))
     }),
     ("bisection", Case::bisected),
     ("ring's order", |case| {
-        case.first_of(&case.sums(&case.placed, case.window))
+        case.first(&case.sums(&case.placed, case.window))
     }),
     ("leaves early", |case| {
-        case.first_of(&case.sums(&case.counted, case.window - 1))
+        case.first(&case.sums(&case.counted, case.window - 1))
     }),
     ("leaves late", |case| {
-        case.first_of(&case.sums(&case.counted, case.window + 1))
+        case.first(&case.sums(&case.counted, case.window + 1))
     }),
     ("never leaves", |case| {
-        case.first_of(&case.sums(&case.counted, usize::MAX))
+        case.first(&case.sums(&case.counted, usize::MAX))
     }),
     ("newest leaves", |case| {
         let newest_first: Vec<i32> = case.counted.iter().rev().copied().collect();
-        case.first_of(&case.sums(&newest_first, case.window))
+        case.first(&case.sums(&newest_first, case.window))
     }),
-    ("now is an answer", |case| match case.above_now() {
-        true => 1,
-        false => case.first(|sum, threshold| sum > threshold),
+    ("now is an answer", |case| {
+        if case.sum_now() > case.threshold {
+            1
+        } else {
+            case.first(&case.own_sums())
+        }
     }),
     ("below W alone", |case| {
-        let sums = case.sums(&case.counted, case.window);
-        case.first_of(&sums[..case.window - 1])
+        case.first(&case.own_sums()[..case.window - 1])
     }),
     ("the last", |case| {
-        let sums = case.sums(&case.counted, case.window);
-        let last = sums.iter().rposition(|&sum| sum > case.threshold);
-        last.map_or(0, |place| place as u32 + 1)
+        let exceeds = |&sum: &i64| sum > case.threshold;
+        numbered(case.own_sums().iter().rposition(exceeds))
     }),
 ];
 
@@ -289,8 +288,7 @@ fn as_entered() {
             let sums = sums_entered(&playing, &question, window, |ledger| {
                 interval(&mut random, ledger, &question)
             });
-            let first = sums.iter().position(|&sum| sum > threshold);
-            let first = first.map_or(0, |place| place as u32 + 1);
+            let first = numbered(sums.iter().position(|&sum| sum > threshold));
             assert_eq!(left, Ok(first), "{question:?}: {sums:?}");
         }
     }

@@ -262,6 +262,28 @@ fn a_week() {
     });
 }
 
+/// The widest sums, from −20,160,000,000 to 20,160,000,000: far beyond 32 bits.
+#[test]
+fn widest_sums() {
+    for (threshold, answer) in [
+        (1, 1_009),
+        (20_000_000, 1_010),
+        (20_159_999_999, 2_016),
+        (20_160_000_000, 0),
+    ] {
+        works(&Case {
+            name: "widest sums",
+            window: 2_016,
+            entries: &[Some(-10_000_000); 2_016],
+            price: 10_000_000,
+            threshold,
+            answer,
+            sums: &[-20_140_000_000, -20_120_000_000],
+            ..ENERGY
+        });
+    }
+}
+
 /// R 2, S 1, W 3, two entries: each window has one place that holds no counted price.
 fn two_regions() -> (raw::Book, Vec<i32>) {
     let opening = books::opening(2, 1, 3, 1);
