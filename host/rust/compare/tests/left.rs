@@ -231,25 +231,30 @@ fn any_list(random: &mut Random) -> Playing {
     Playing::start(start, window > NARROW).expect("a valid start")
 }
 
-/// After each entry that is accepted, some questions; of a wide window one now and then.
+/// So many calls, and after each entry that is accepted some questions; of a wide window one now and then.
+fn ask_after_entries(met: &mut Met, random: &mut Random, mut playing: Playing, length: usize) {
+    let wide = playing.ledger.shape().window > NARROW as usize;
+    for _ in 0..length {
+        let call = calls::call(random, &playing.ledger);
+        let is_entry = matches!(call, Call::Entry(..));
+        let taken = playing.call(call).number == 0 && is_entry;
+        if taken && !wide {
+            met.ask_some(random, &mut playing, 3);
+        } else if taken && random.chance(30) {
+            met.ask_some(random, &mut playing, 1);
+        }
+    }
+}
+
 #[test]
 fn generated_lists() {
     let mut met = Met::default();
     for round in 0..rounds() {
         let mut random = Random::new(0x50_0000 + round);
         for _ in 0..2_400 {
-            let mut playing = any_list(&mut random);
-            let wide = playing.ledger.shape().window > NARROW as usize;
-            for _ in 0..random.below(50) {
-                let call = calls::call(&mut random, &playing.ledger);
-                let is_entry = matches!(call, Call::Entry(..));
-                let taken = playing.call(call).number == 0 && is_entry;
-                if taken && !wide {
-                    met.ask_some(&mut random, &mut playing, 3);
-                } else if taken && random.chance(30) {
-                    met.ask_some(&mut random, &mut playing, 1);
-                }
-            }
+            let playing = any_list(&mut random);
+            let length = random.below(50);
+            ask_after_entries(&mut met, &mut random, playing, length);
         }
     }
     met.say("generated");
