@@ -30,7 +30,7 @@ static const char *meaning(uint32_t number)
     case GUXHAMOLE_RECORD_BROKEN: return "a record missing, cut short or of another length than its kind";
     case GUXHAMOLE_RECORD_KIND: return "a record's kind or region total that doesn't belong there";
     case GUXHAMOLE_RECORD_REGION: return "a record of an unknown region, or of one given before";
-    case GUXHAMOLE_LEFT_PRICE: return "a price outside its market's entry range";
+    case GUXHAMOLE_PLANNED_PRICE: return "a price outside its market's entry range";
     default: return "unknown";
     }
 }

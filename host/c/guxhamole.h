@@ -90,7 +90,7 @@ enum guxhamole_refusal {
     GUXHAMOLE_RECORD_BROKEN = 40, /* a record is missing or cut short, or its length is below 6 or not its known kind's */
     GUXHAMOLE_RECORD_KIND = 41,   /* a record's kind, or the head's region total, doesn't belong there */
     GUXHAMOLE_RECORD_REGION = 42, /* a record's region is none of the book's, or was given before */
-    GUXHAMOLE_LEFT_PRICE = 43     /* the price of further intervals is outside its market's range of entry prices */
+    GUXHAMOLE_PLANNED_PRICE = 43  /* the price of further intervals is outside its market's range of entry prices */
 };
 
 /* What a book is opened with; money in cents. */

@@ -42,6 +42,7 @@ use Rattle.ledger.proofs.Theorem.{plays, settings-after}
 use Rattle.planning.specs.Left.{exceeds, Least, leftVerdict, windowIn, marketLeft, intervalsLeft}
 use Rattle.planning.specs.Meaning.{acceptedIn, brought, aboveAfter, asked, Foretells, askedVerdict, Answered, Foretold}
 use Rattle.planning.proofs.Least.{least-is, none-is}
+use Rattle.planning.proofs.Ways.{verdict-tests}
 
 -- ---- the last W of the last W and more
 lastN-again : (W : ℕ) (u v : List ℤ) → lastN W (lastN W u ++ v) ≡ lastN W (u ++ v)
@@ -148,8 +149,8 @@ market-is R S r m e =
 -- ---- the theorem, of a book with its ring that agrees with P
 module _ (s : Held) (p : Ledger) (a : Agree s p) where
   pub verdict-is : (r m : ℕ) (x : ℤ) → leftVerdict (s .book) (s .ring) r m x ≡ askedVerdict (s .book .regions) (s .book .services) r m x
-  unfolding leftVerdict
-  verdict-is r m x = rw (a .holds .accepted, eq-eqb _ _ (a .holds .ring-size), a .holds .prices) refl
+  verdict-is r m x =
+      sym (verdict-tests (s .book) (s .ring) r m x) ∙ rw (a .holds .accepted, eq-eqb _ _ (a .holds .ring-size), a .holds .prices) refl
 
   asked-is : (r m : ℕ) (x : ℤ) → asked s r m x .verdict ≡ leftVerdict (s .book) (s .ring) r m x
   unfolding intervalsLeft

@@ -1,5 +1,5 @@
 -- No refusal of the question has a place, and the book is handed back as it was lent. Assumes nothing.
-use mathlib.Core.Path.{_≡_, refl}
+use mathlib.Core.Path.{_≡_, refl, subst}
 use mathlib.Core.Bool.{not}
 use mathlib.Core.List.{List}
 use Prim.Native.Nat.{ℕ}
@@ -15,15 +15,18 @@ use Rattle.book.proofs.Places.{Placeless, no-place, taken, either}
 use Rattle.book_calls.specs.Report.{reportVerdict}
 use Rattle.image.specs.Storing.{pricesOk}
 use Rattle.planning.specs.Left.{leftVerdict, intervalsLeft}
+use Rattle.planning.proofs.Ways.{verdict-tests}
 
 module _ (b : Book) (ring : List ℤ) (region market : ℕ) (price : ℤ) where
   verdict-place : Placeless (leftVerdict b ring region market price)
-  unfolding leftVerdict
   verdict-place =
-      either (not (valid b)) (no-place 10)
+      subst Placeless (verdict-tests b ring region market price)
+      (either (not (valid b)) (no-place 10)
       (either (not (eqb (length ring) (ringSize (b .regions) (b .services) (b .window)))) (no-place 11)
       (either (not (isAccepted (reportVerdict (b .regions) (b .services) region market))) (no-place 21)
-      (either (not (pricesOk b ring)) (no-place 22) (either (not (inRange (isEnergy market) price)) (no-place 43) taken))))
+      (either (not (pricesOk b ring)) (no-place 22)
+      (either (not (inRange (isEnergy market) price)) (no-place 43)
+      taken)))))
 
   pub left-place : intervalsLeft b ring region market price .verdict .place ≡ 0
   unfolding intervalsLeft

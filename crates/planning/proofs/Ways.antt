@@ -1,6 +1,6 @@
 -- The question's verdict and its outcome by the way that it takes, and what the walk over a window is given. Assumes nothing.
 use mathlib.Core.Path.{_≡_, refl, sym, ap, _∙_, subst}
-use mathlib.Core.Bool.{Bool, true, false, _&&_}
+use mathlib.Core.Bool.{Bool, true, false, not, _&&_}
 use mathlib.Core.List.{List}
 use Prim.Native.Nat.{ℕ, _+_, _*_, _/_, _≤_, _<_}
 use native.Mathlib.Omega.{arith}
@@ -37,49 +37,64 @@ use Rattle.planning.specs.Working.{Window-ok, Accepts}
 abbrev pub hasMarket : Book → ℕ → ℕ → Bool
 hasMarket b region market = ltb region (b .regions) && leb market (b .services)
 
--- ---- the verdict
+-- ---- the verdict, of its five tests
+abbrev pub tests : Bool → Bool → Bool → Bool → Bool → Verdict
+tests book ring market sums price =
+    pick (not book) (refused 10)
+    (pick (not ring) (refused 11)
+    (pick (not market) (refused 21)
+    (pick (not sums) (refused 22)
+    (pick (not price) (refused 43)
+    accepted))))
+
 module _ (b : Book) (ring : List ℤ) (region market : ℕ) (price : ℤ) where
   abbrev size : ℕ
   size = ringSize (b .regions) (b .services) (b .window)
 
-  pub left-10 : valid b ≡ false → refused 10 ≡ leftVerdict b ring region market price
+  abbrev reports : Bool
+  reports = isAccepted (reportVerdict (b .regions) (b .services) region market)
+
+  pub verdict-tests : tests (valid b) (eqb (length ring) size) reports (pricesOk b ring) (inRange (isEnergy market) price)
+      ≡ leftVerdict b ring region market price
   unfolding leftVerdict
-  left-10 p = rw p refl
+  verdict-tests = refl
+
+  has-report : (t : Bool) → hasMarket b region market ≡ t → reports ≡ t
+  unfolding reportVerdict
+  has-report true e = rw e refl
+  has-report false e = rw e refl
+
+  pub left-10 : valid b ≡ false → refused 10 ≡ leftVerdict b ring region market price
+  left-10 p = (rw p refl) ∙ verdict-tests
 
   module _ (p : valid b ≡ true) where
     pub left-11 : (length ring ≡ size → ⊥) → refused 11 ≡ leftVerdict b ring region market price
-    unfolding leftVerdict
-    left-11 q = rw (p, ne-eqb (length ring) size q) refl
+    left-11 q = (rw (p, ne-eqb (length ring) size q) refl) ∙ verdict-tests
 
     module _ (q : length ring ≡ size) where
       pub left-21 : hasMarket b region market ≡ false → refused 21 ≡ leftVerdict b ring region market price
-      unfolding leftVerdict reportVerdict
-      left-21 r = rw (p, eq-eqb (length ring) size q, r) refl
+      left-21 r = (rw (p, eq-eqb (length ring) size q, has-report false r) refl) ∙ verdict-tests
 
       module _ (r : hasMarket b region market ≡ true) where
         pub left-22 : pricesOk b ring ≡ false → refused 22 ≡ leftVerdict b ring region market price
-        unfolding leftVerdict reportVerdict
-        left-22 s = rw (p, eq-eqb (length ring) size q, r, s) refl
+        left-22 s = (rw (p, eq-eqb (length ring) size q, has-report true r, s) refl) ∙ verdict-tests
 
         module _ (s : pricesOk b ring ≡ true) where
           pub left-43 : inRange (isEnergy market) price ≡ false → refused 43 ≡ leftVerdict b ring region market price
-          unfolding leftVerdict reportVerdict
-          left-43 t = rw (p, eq-eqb (length ring) size q, r, s, t) refl
+          left-43 t = (rw (p, eq-eqb (length ring) size q, has-report true r, s, t) refl) ∙ verdict-tests
 
           pub left-0 : inRange (isEnergy market) price ≡ true → accepted ≡ leftVerdict b ring region market price
-          unfolding leftVerdict reportVerdict
-          left-0 t = rw (p, eq-eqb (length ring) size q, r, s, t) refl
+          left-0 t = (rw (p, eq-eqb (length ring) size q, has-report true r, s, t) refl) ∙ verdict-tests
 
-  reported : isAccepted (reportVerdict (b .regions) (b .services) region market) ≡ true → hasMarket b region market ≡ true
+  reported : reports ≡ true → hasMarket b region market ≡ true
   unfolding reportVerdict
   reported h = passes-not (hasMarket b region market) (refused 21) accepted refl h .0
 
   accepts : isAccepted (leftVerdict b ring region market price) ≡ true → Accepts b ring region market
-  unfolding leftVerdict
   accepts e =
-      let p = passes-not (valid b) (refused 10) _ refl e in
+      let p = passes-not (valid b) (refused 10) _ refl (ap isAccepted verdict-tests ∙ e) in
       let q = passes-not (eqb (length ring) size) (refused 11) _ refl (p .1) in
-      let r = passes-not (isAccepted (reportVerdict (b .regions) (b .services) region market)) (refused 21) _ refl (q .1) in
+      let r = passes-not reports (refused 21) _ refl (q .1) in
       let s = passes-not (pricesOk b ring) (refused 22) _ refl (r .1) in
       let has = reported (r .0) in
       record {

@@ -106,12 +106,13 @@ loop-holds : tie.Need-loop-holds Inv-loop μ-loop
 loop-holds c =
     let a = c .args in
     let f : SFits w64 (a .sum) = search needs in
-    rw (toZ-ofZ f) (
+    let q : toZ w64 (ofZ w64 (a .sum)) ≡ a .sum = toZ-ofZ f in
+    let w = windowOf (a .ring .now) (a .base) (a .window) (a .start) (a .count) in
+    let x = toZ w32 (ofZ w32 (a .price)) in (
       omega arith,
-      c .pre .bound,
-      c .pre .added ∙ sym (sum-start (a .ring .now) (a .base) (a .window) (a .start) (a .count) (toZ w32 (ofZ w32 (a .price))) (c .pre .most)),
-      none-start (a .window) (windowOf (a .ring .now) (a .base) (a .window) (a .start) (a .count)) (toZ w32 (ofZ w32 (a .price)))
-          (toZ w64 (ofZ w64 (a .threshold))),
+      subst (λ (z : ℤ). natAbs z ≤ 20160000000) (sym q) (c .pre .bound),
+      q ∙ c .pre .added ∙ sym (sum-start (a .ring .now) (a .base) (a .window) (a .start) (a .count) x (c .pre .most)),
+      none-start (a .window) w x (toZ w64 (ofZ w64 (a .threshold))),
     )
 
 leaving-requires : tie.Need-leaving-requires Inv-loop μ-loop

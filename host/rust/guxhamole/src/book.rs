@@ -226,7 +226,7 @@ impl Book {
     /// assert_eq!(book.intervals_left(&ring, 0, 0, 2_000), Ok(4));
     /// // 5,500, 7,000, 8,500, 10,000; then the 4,000 leave, and it is 7,500.
     /// assert_eq!(book.intervals_left(&ring, 0, 0, 1_500), Ok(0));
-    /// assert_eq!(book.intervals_left(&ring, 0, 0, 10_000_001), Err(Refusal::AskedPrice));
+    /// assert_eq!(book.intervals_left(&ring, 0, 0, 10_000_001), Err(Refusal::PlannedPrice));
     /// # Ok::<(), Refusal>(())
     /// ```
     pub fn intervals_left(

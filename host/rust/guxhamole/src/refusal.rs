@@ -67,7 +67,7 @@ pub enum Refusal {
     /// 42: a record is of a region from R up, or of one that was given before.
     RecordRegion,
     /// 43: the price asked about is out of its market's range.
-    AskedPrice,
+    PlannedPrice,
     /// A number that this crate doesn't know: the archive is a later one ([`crate::abi`]).
     Other(u32),
 }
@@ -102,7 +102,7 @@ impl Refusal {
             40 => Refusal::Broken,
             41 => Refusal::RecordKind,
             42 => Refusal::RecordRegion,
-            43 => Refusal::AskedPrice,
+            43 => Refusal::PlannedPrice,
             _ => Refusal::Other(number),
         }
     }
@@ -162,7 +162,7 @@ impl Refusal {
                 "a record's kind, or a head's region total, that doesn't belong there",
             ),
             Refusal::RecordRegion => (42, "a record of a region from R up or given before"),
-            Refusal::AskedPrice => (43, "a price asked about, out of its market's range"),
+            Refusal::PlannedPrice => (43, "a price asked about, out of its market's range"),
             Refusal::Other(number) => (number, "a refusal of a later archive"),
         }
     }
