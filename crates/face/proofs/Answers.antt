@@ -1,14 +1,13 @@
 -- From what a call of the book promised and what was made of its answer to what the host holds. Assumes nothing.
 use mathlib.Core.Path.{_≡_, refl, sym, ap, _∙_}
-use mathlib.Core.Bool.{Bool, true, false, not, _&&_}
+use mathlib.Core.Bool.{not, _&&_}
 use mathlib.Core.List.{List}
 use Prim.Native.Nat.{ℕ}
 use lib.Dec.{eqb, leb, ltb}
 use lib.IntN.{ℤ}
 use lib.ListN.{length}
-use Rattle.laws.specs.Base.{pick}
 use Rattle.laws.proofs.Tests.{by-test}
-use Rattle.pricing.specs.Verdict.{Verdict, accepted, refused}
+use Rattle.pricing.specs.Verdict.{Verdict}
 use Rattle.book.specs.declared.record.Book.{Book}
 use Rattle.book.specs.Record.{ringSize, isAccepted}
 use Rattle.book.specs.Validity.{valid}

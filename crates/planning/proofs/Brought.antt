@@ -1,23 +1,22 @@
 -- What calls bring a market's window, and the theorem of specs/Meaning. Assumes nothing.
 use mathlib.Core.Path.{_≡_, refl, sym, ap, ap₂, _∙_, subst}
 use mathlib.Core.Bool.{Bool, true, false, not, _&&_}
-use mathlib.Core.List.{List, [], _∷_, _++_, append-nil}
-use mathlib.Core.Logic.{⊎-elim}
-use Prim.Native.Nat.{ℕ, zero, suc, _+_, _*_, _-_, _≤_, _<_}
+use mathlib.Core.List.{List, [], _∷_, _++_, append-nil, append-assoc}
+use Prim.Native.Nat.{ℕ, suc, _+_, _-_, _≤_, _<_}
 use native.Mathlib.Nat.{le-refl}
 use native.Mathlib.Omega.{arith}
 use borrow.Author.Tests.{eq-eqb, lt-ltb, le-leb, ltb-true, leb-true}
-use lib.Dec.{eqb, leb, ltb}
-use lib.IntN.{ℤ, pos}
+use lib.Dec.{leb, ltb}
+use lib.IntN.{ℤ}
 use lib.Signed.{ltZ}
-use lib.ListN.{length, take, drop, getD, replicate, length-append, length-drop}
+use lib.ListN.{length, take, drop, replicate, length-append, length-drop}
 use lib.Seq.{take-all, drop-drop, drop-append-le}
 use Rattle.laws.specs.Base.{pick}
 use Rattle.laws.specs.Lists.{total, lastN}
 use Rattle.laws.proofs.Tests.{never, by-test, and-left, and-right}
 use Rattle.laws.proofs.Lists.{length-run}
 use Rattle.pricing.specs.Holding.{isEnergy, inRange}
-use Rattle.pricing.specs.Verdict.{Verdict, accepted, refused}
+use Rattle.pricing.specs.Verdict.{accepted, refused}
 use Rattle.book.specs.declared.record.Settings.{Settings}
 use Rattle.book.specs.Record.{marketsOf, isAccepted}
 use Rattle.book.proofs.Passes.{passes-not}
@@ -30,7 +29,7 @@ use Rattle.publishing.specs.Entry.{Entry}
 use Rattle.entries.specs.Checking.{entryVerdict}
 use Rattle.ledger.specs.Calls.{Call, entry, threshold, limits, report, restart, Answer, answers, after, verdictIn}
 use Rattle.ledger.specs.Ledger as Ledger
-use Rattle.ledger.specs.Ledger.{Item, interval, threshold-set, limits-set, Ledger, entriesOf, taken, unmarkedPrices, lastPrices, kept}
+use Rattle.ledger.specs.Ledger.{interval, threshold-set, limits-set, Ledger, entriesOf, taken, unmarkedPrices, lastPrices}
 use Rattle.ledger.specs.Book as Book
 use Rattle.ledger.specs.Book.{Held}
 use Rattle.ledger.specs.Demand.{settingsOf, opening}
@@ -74,10 +73,6 @@ entries-play p (limits c f) =
 entries-play p (report r m) = sym (append-nil (entriesOf (p .items)))
 entries-play p (restart buffer g) = sym (append-nil (entriesOf (p .items)))
 
-assoc : (a b c : List Entry) → (a ++ b) ++ c ≡ a ++ (b ++ c)
-assoc [] b c = refl
-assoc (x ∷ a) b c = ap (λ (l : List Entry). x ∷ l) (assoc a b c)
-
 accepted-first : (c : Call) (K : List Call) (a : Answer) (l : List Answer) → acceptedIn (c ∷ []) (a ∷ []) ++ acceptedIn K l ≡ acceptedIn (c ∷ K) (a ∷ l)
 unfolding acceptedIn
 accepted-first (entry g number e table) K a l = by-test (isAccepted (verdictIn a)) (λ t. rw t) (λ t. rw t)
@@ -93,7 +88,7 @@ entries-after (c ∷ K) p =
     let rest = acceptedIn K (answers Ledger.play (Ledger.play p c .state) K) in
     entries-after K (Ledger.play p c .state)
     ∙ ap (λ (l : List Entry). l ++ rest) (entries-play p c)
-    ∙ assoc (entriesOf (p .items)) (one p c) rest
+    ∙ append-assoc (entriesOf (p .items)) (one p c) rest
     ∙ ap (λ (l : List Entry). entriesOf (p .items) ++ l) (accepted-first c K (Ledger.play p c .answer) (answers Ledger.play (Ledger.play p c .state) K))
 
 -- ---- a market's last prices after them

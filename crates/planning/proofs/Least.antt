@@ -1,5 +1,5 @@
 -- The number of intervals left, in logical form. Assumes nothing.
-use mathlib.Core.Path.{_≡_, refl, sym, ap, _∙_, subst}
+use mathlib.Core.Path.{_≡_, refl, sym, _∙_, subst}
 use mathlib.Core.Bool.{Bool, true, false}
 use mathlib.Core.List.{List}
 use mathlib.Core.Logic.{⊎-elim}
@@ -12,7 +12,7 @@ use Rattle.laws.specs.Base.{pick}
 use Rattle.laws.specs.Lists.{firstOf}
 use Rattle.laws.proofs.Tests.{by-test, lt-or-ge}
 use Rattle.laws.proofs.Lists.{firstOf-found, firstOf-none, firstOf-passed}
-use Rattle.planning.specs.Left.{exceeds, firstAbove, leastAbove, Least}
+use Rattle.planning.specs.Left.{exceeds, leastAbove, Least}
 
 -- what the first one found is
 found-at : (n : ℕ) (t : ℕ → Bool) → firstOf n t < n → t (firstOf n t) ≡ true

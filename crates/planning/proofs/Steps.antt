@@ -1,7 +1,6 @@
 -- One more price in a window: what the sum moves by. Assumes nothing.
-use mathlib.Core.Path.{_≡_, refl, sym, ap, ap₂, _∙_}
-use mathlib.Core.Bool.{Bool, true, false}
-use mathlib.Core.List.{List, [], _∷_, _++_, append-nil}
+use mathlib.Core.Path.{_≡_, refl, sym, ap, _∙_}
+use mathlib.Core.List.{List, [], _∷_, _++_, append-nil, append-assoc}
 use mathlib.Core.Logic.{⊎-elim}
 use Prim.Native.Nat.{ℕ, zero, suc, _+_, _-_, _≤_, _<_}
 use native.Mathlib.Omega.{arith}
@@ -15,7 +14,6 @@ use Rattle.laws.specs.Lists.{total, lastN}
 use Rattle.laws.proofs.Lists.{getD-tabulate, length-run}
 use Rattle.laws.proofs.Tests.{by-test, lt-or-ge}
 use Rattle.head.specs.Counted.{wrap, windowOf}
-use Rattle.ledger.proofs.Pushes.{pushed}
 use Rattle.ledger.proofs.Joining.{pushed-total}
 use Rattle.ledger.proofs.Histories.{last-pushed}
 use Rattle.planning.specs.Left.{sumWith}
@@ -24,10 +22,6 @@ use Rattle.planning.specs.Working.{leaving}
 replicate-snoc : (n : ℕ) (x : ℤ) → replicate (suc n) x ≡ replicate n x ++ x ∷ []
 replicate-snoc zero x = refl
 replicate-snoc (suc n) x = ap (λ (l : List ℤ). x ∷ l) (replicate-snoc n x)
-
-assoc : (a b c : List ℤ) → (a ++ b) ++ c ≡ a ++ (b ++ c)
-assoc [] b c = refl
-assoc (x ∷ a) b c = ap (λ (l : List ℤ). x ∷ l) (assoc a b c)
 
 module _ (W : ℕ) (w : List ℤ) (x : ℤ) (most : length w ≤ W) (n : ℕ) (h : n < W) where
   abbrev u : List ℤ
@@ -49,7 +43,7 @@ module _ (W : ℕ) (w : List ℤ) (x : ℤ) (most : length w ≤ W) (n : ℕ) (h
   pub sum-step : sumWith W w x (suc n) ≡ sumWith W w x n +ℤ (x -ℤ pick (ltb (length w + n) W) (pos 0) (getD w (length w + n - W) (pos 0)))
   sum-step =
       ap (λ (l : List ℤ). total (lastN W (w ++ l))) (replicate-snoc n x)
-      ∙ ap (λ (l : List ℤ). total (lastN W l)) (sym (assoc w (replicate n x) (x ∷ [])))
+      ∙ ap (λ (l : List ℤ). total (lastN W l)) (sym (append-assoc w (replicate n x) (x ∷ [])))
       ∙ ap total (last-pushed W (omega arith) u x)
       ∙ pushed-total W (lastN W u) x
       ∙ ⊎-elim

@@ -1,5 +1,5 @@
 -- The question's verdict and its outcome by the way that it takes, and what the walk over a window is given. Assumes nothing.
-use mathlib.Core.Path.{_≡_, refl, sym, ap, _∙_, subst}
+use mathlib.Core.Path.{_≡_, refl, sym, ap, _∙_}
 use mathlib.Core.Bool.{Bool, true, false, not, _&&_}
 use mathlib.Core.List.{List}
 use Prim.Native.Nat.{ℕ, _+_, _*_, _/_, _≤_, _<_}
@@ -10,7 +10,7 @@ use lib.IntN.{ℤ, pos}
 use lib.ListN.{length, getD}
 use Rattle.laws.specs.Base.{pick}
 use Rattle.laws.specs.Lists.{total}
-use Rattle.laws.proofs.Tests.{by-test, and-left, and-right}
+use Rattle.laws.proofs.Tests.{and-left, and-right}
 use Rattle.laws.proofs.Lists.{flat-div, flat-lt}
 use Rattle.pricing.specs.Verdict.{Verdict, accepted, refused}
 use Rattle.pricing.specs.Holding.{isEnergy, inRange}
@@ -23,7 +23,7 @@ use Rattle.book.specs.Validity.{valid}
 use Rattle.book.proofs.Passes.{passes-not}
 use Rattle.book.proofs.Validities.{Valid, valid-is, place-below, sum-at, sizes-small}
 use Rattle.book_calls.specs.Report.{reportVerdict}
-use Rattle.head.specs.Counted.{windowOf, marketCount, countAt, oldestAt}
+use Rattle.head.specs.Counted.{windowOf, marketCount}
 use Rattle.image.specs.Storing.{pricesOk}
 use Rattle.image.proofs.Walks.{Market, market}
 use Rattle.image.proofs.Ways.{is-accepted, is-refused}

@@ -10,7 +10,7 @@ use lib.Signed.{ltZ}
 use mir.Syntax.{w32, w64}
 use mir.Val.{SFits, toZ, ofZ}
 use mir.Facts.{toZ-ofZ}
-use Rattle.laws.proofs.Integers.{signed, i32-i64, add-fits, sub-fits, fits-abs, abs-add, abs-sub, abs-fits}
+use Rattle.laws.proofs.Integers.{signed, i32-i64, sub-fits, fits-abs, abs-add, abs-sub, abs-fits}
 use Rattle.head.specs.Counted.{windowOf}
 use Rattle.planning.specs.Left.{sumWith, exceeds}
 use Rattle.planning.specs.Working.{leaving}

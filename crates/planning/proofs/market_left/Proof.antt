@@ -1,5 +1,4 @@
 -- `planning::market_left` meets its contract. Assumes nothing.
-use mathlib.Core.Path.{_≡_, sym, _∙_}
 use Prim.Native.Nat.{_<_, _≤_, _+_, _*_}
 use native.Mathlib.Omega.{arith}
 use lib.IntN.{pos}
@@ -8,7 +7,6 @@ use mir.Syntax.{w32, w64}
 use mir.Val.{SFits}
 use mir.Facts.{toZ-ofZ}
 use Rattle.book.specs.Record.{marketsOf, placeOf}
-use Rattle.planning.specs.Working.{Accepts}
 use Rattle.planning.proofs.Ways.{small, window-ok, number-is}
 use borrow.Author.Needs.{needs, sfits-of}
 use Rattle.planning.proofs.market_left.Statement.{statement}
