@@ -168,7 +168,8 @@ static void put_others(FILE *out, uint32_t number)
     line.market = (uint32_t)within(0, MARKETS);
     if (below(3) == 0)
         feed_line(out, &line);
-    put_left(out);
+    if (below(3) == 0)
+        put_left(out);
     struct line refused = refused_interval(number);
     if (below(4) == 0)
         feed_line(out, &refused);

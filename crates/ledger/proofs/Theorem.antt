@@ -197,11 +197,16 @@ alike L s p a =
         let j : market < marketsOf (after Book.play s L .book .services) = omega (arith, w .services, ap (λ (t : Settings). t .services) (settings-after L p)) in
         mark-agrees (after Book.play s L) (after Ledger.play p L) w region market i j
 
+-- a book that was just opened agrees
+pub opening-agrees : (t : Settings) (ring : List ℤ) → length (t .parents) ≡ 8 → Opening.opened t ring .verdict .number ≡ 0
+    → Agree (opening t ring) (Ledger.begin t)
+opening-agrees t ring eight e =
+    let o = opened-is t ring (eq-eqb (Opening.opened t ring .verdict .number) 0 e) in
+    rw (o .1, o .2) (begins t (length ring) (o .0) eight)
+
 -- and from an opening that is accepted: DEMAND 3
 pub demand-3 : Demand-3
 unfolding Demand-3
 demand-3 regions services window halves first parents θ cap floor ring L e =
     let t = settingsOf regions services window halves first parents θ cap floor in
-    let o = opened-is t ring (eq-eqb (Opening.opened t ring .verdict .number) 0 e) in
-    let start = begins t (length ring) (o .0) (length-run parents 8 0) in
-    alike L (opening t ring) (Ledger.begin t) (rw (o .1, o .2) start)
+    alike L (opening t ring) (Ledger.begin t) (opening-agrees t ring (length-run parents 8 0) e)

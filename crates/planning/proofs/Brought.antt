@@ -24,7 +24,6 @@ use Rattle.book_calls.specs.Opening as Opening
 use Rattle.book_calls.specs.Setting.{thresholdVerdict, limitsVerdict}
 use Rattle.book_calls.specs.Report as Report
 use Rattle.book_calls.specs.Report.{reportVerdict}
-use Rattle.book_calls.proofs.Kept.{opened-is}
 use Rattle.publishing.specs.Entry.{Entry}
 use Rattle.entries.specs.Checking.{entryVerdict}
 use Rattle.ledger.specs.Calls.{Call, entry, threshold, limits, report, restart, Answer, answers, after, verdictIn}
@@ -35,9 +34,8 @@ use Rattle.ledger.specs.Book.{Held}
 use Rattle.ledger.specs.Demand.{settingsOf, opening}
 use Rattle.ledger.proofs.Histories.{entries-append, unmarked-append}
 use Rattle.ledger.proofs.Agrees.{Agree}
-use Rattle.ledger.proofs.Begins.{begins}
 use Rattle.ledger.proofs.Reports.{report-agrees}
-use Rattle.ledger.proofs.Theorem.{plays, settings-after}
+use Rattle.ledger.proofs.Theorem.{plays, settings-after, opening-agrees}
 use Rattle.planning.specs.Left.{exceeds, Least, leftVerdict, windowIn, marketLeft, intervalsLeft}
 use Rattle.planning.specs.Meaning.{acceptedIn, brought, aboveAfter, asked, Foretells, askedVerdict, Answered, Foretold}
 use Rattle.planning.proofs.Least.{least-is, none-is}
@@ -206,10 +204,7 @@ module _ (regions services window halves first : ℕ) (parents : ℕ → ℕ) (�
   ledger = after Ledger.play (Ledger.begin settings) L
 
   agrees : Agree now ledger
-  agrees =
-      let o = opened-is settings ring (eq-eqb (Opening.opened settings ring .verdict .number) 0 e) in
-      let start = begins settings (length ring) (o .0) (length-run parents 8 0) in
-      plays L (opening settings ring) (Ledger.begin settings) (rw (o .1, o .2) start) .1
+  agrees = plays L (opening settings ring) (Ledger.begin settings) (opening-agrees settings ring (length-run parents 8 0) e) .1
 
   verdict-of : (r m : ℕ) (x : ℤ) → askedVerdict (now .book .regions) (now .book .services) r m x ≡ askedVerdict regions services r m x
   verdict-of r m x =
