@@ -1,6 +1,6 @@
 -- Laws of the lists and bounded searches of specs/Lists: for each kind of loop what holds at its start (none), after a turn (step) and at its end (done). Assumes nothing.
 use mathlib.Core.Path.{_≡_, refl, sym, ap, ap₂, _∙_}
-use mathlib.Core.Bool.{Bool, true, false, _&&_, _||_}
+use mathlib.Core.Bool.{Bool, true, false, not, _&&_, _||_}
 use mathlib.Core.Logic.{⊎-elim}
 use mathlib.Core.List.{List, [], _∷_, _++_, append-nil}
 use Prim.Native.Nat.{ℕ, zero, suc, _+_, _*_, _-_, _/_, _%_, _<_, _≤_}
@@ -8,11 +8,11 @@ use native.Mathlib.Numerals.{add-one}
 use native.Mathlib.Nat.{add-zero, add-suc, div-lt-iff-lt-mul, mod-lt, mul-le-mul-right, suc-mul, not-suc-le-zero, mul-add-div-right, mul-add-mod-self-right, div-eq-of-lt, mod-eq-of-lt}
 use native.Mathlib.Omega.{arith}
 use lib.Dec.{ltb}
-use borrow.Author.Tests.{lt-ltb, le-ltb}
+use borrow.Author.Tests.{lt-ltb, le-ltb, not-false}
 use lib.ListN.{length, getD, set, drop, replicate, length-append, length-drop, drop-of-length-le, length-set}
 use lib.Seq.{drop-cons, drop-append-le, drop-drop, set-at, append-snoc, getD-set-same, getD-set-other, sets}
 use Rattle.laws.specs.Base.{pick}
-use Rattle.laws.proofs.Tests.{and-left, and-right, and-assoc, or-left, or-right, true-is, lt-or-ge}
+use Rattle.laws.proofs.Tests.{and-left, and-right, and-assoc, or-left, or-right, true-is, never, by-test, lt-or-ge}
 use Rattle.laws.specs.Lists.{run, tabulate, puts, allBelow, anyBelow, countBelow, firstOf, lastN}
 
 -- ---- tests of all, of some and of how many numbers below a bound
@@ -84,6 +84,9 @@ pub at-all : (n : ℕ) (t : ℕ → Bool) → ((k : ℕ) → k < n → t k ≡ t
 unfolding allBelow
 at-all zero t h = refl
 at-all (suc n) t h = rw (at-all n t (λ k l. h k (omega arith)), h n (omega arith))
+
+pub not-all : (n k : ℕ) (t : ℕ → Bool) → k < n → t k ≡ false → allBelow n t ≡ false
+not-all n k t h e = by-test (allBelow n t) (λ a. never (t k) (all-at n t a k h) e) (λ a. a)
 
 pub any-at : (n : ℕ) (t : ℕ → Bool) → anyBelow n t ≡ true → (k : ℕ) × (k < n) × (t k ≡ true)
 unfolding anyBelow
@@ -316,6 +319,41 @@ firstOf-passed (suc n) t k h = go (t zero) refl (firstOf-passed n (λ j. t (suc 
     go true e rest k h = absurd (not-suc-le-zero h)
     go false e rest zero h = e
     go false e rest (suc k) h = rest k (omega arith)
+
+-- where all pass, none is the first that does not; where not all do, one is
+pub firstOf-all : (n : ℕ) (t : ℕ → Bool) → allBelow n t ≡ true → firstOf n (λ k. not (t k)) ≡ n
+firstOf-all n t a = firstOf-none n (λ k. not (t k)) (λ k h. ap not (all-at n t a k h))
+
+pub firstOf-some : (n : ℕ) (t : ℕ → Bool) → allBelow n t ≡ false → firstOf n (λ k. not (t k)) < n
+firstOf-some n t a =
+    ⊎-elim (λ h. h)
+    (λ (h : n ≤ firstOf n (λ k. not (t k))). never (allBelow n t) (at-all n t (λ k l. not-false (t k) (firstOf-passed n (λ k. not (t k)) k (omega arith)))) a)
+    (lt-or-ge (firstOf n (λ k. not (t k))) n)
+
+-- at most n
+pub firstOf-most : (n : ℕ) (t : ℕ → Bool) → firstOf n t ≤ n
+unfolding firstOf
+firstOf-most zero t = omega arith
+firstOf-most (suc n) t = by-test (t zero) (λ e. rw e (omega arith)) (λ e. rw e (omega (arith, firstOf-most n (λ k. t (suc k)))))
+
+-- below a + b: the first below a, or where there is none the first of the b after
+pub firstOf-split : (a b : ℕ) (t : ℕ → Bool) → firstOf (a + b) t ≡ pick (ltb (firstOf a t) a) (firstOf a t) (a + firstOf b (λ k. t (a + k)))
+unfolding firstOf
+firstOf-split zero b t =
+    let e : 0 + b ≡ b = omega arith in
+    rw e (omega (arith, firstOf-same b t (λ k. t (0 + k)) (λ k h. ap t (omega arith))))
+firstOf-split (suc a) b t =
+    let e : suc a + b ≡ suc (a + b) = omega arith in
+    rw (e, firstOf-split a b (λ k. t (suc k)), firstOf-same b (λ k. t (suc a + k)) (λ k. t (suc (a + k))) (λ k h. ap t (omega arith)))
+    (go (t zero) (firstOf a (λ k. t (suc k))) (firstOf b (λ k. t (suc (a + k)))))
+  where
+    go : (now : Bool) (x y : ℕ) → pick now zero (suc (pick (ltb x a) x (a + y))) ≡ pick (ltb (pick now zero (suc x)) (suc a)) (pick now zero (suc x)) (suc a + y)
+    go true x y = rw (lt-ltb 0 (suc a) (omega arith))
+    go false x y =
+        ⊎-elim
+        (λ (h : x < a). rw (lt-ltb x a h, lt-ltb (suc x) (suc a) (omega arith)))
+        (λ (h : a ≤ x). rw (le-ltb x a h, le-ltb (suc x) (suc a) (omega arith)) (omega arith))
+        (lt-or-ge x a)
 
 -- ---- region and market of the flat number k = region × M + market
 pub flat-div : (r m M : ℕ) → m < M → (r * M + m) / M ≡ r

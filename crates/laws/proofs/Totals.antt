@@ -1,5 +1,5 @@
 -- Laws of the sum of a list. Assumes nothing.
-use mathlib.Core.Path.{_≡_, sym, ap, _∙_}
+use mathlib.Core.Path.{_≡_, refl, sym, ap, _∙_}
 use mathlib.Core.List.{List, [], _∷_, _++_}
 use Prim.Native.Nat.{ℕ, zero, suc, _+_, _*_, _<_, _≤_}
 use native.Mathlib.Nat.{suc-mul}
@@ -23,7 +23,11 @@ total-one x = +ℤ-idr x
 pub total-snoc : (l : List ℤ) (x : ℤ) → total (l ++ x ∷ []) ≡ total l +ℤ x
 total-snoc l x = total-append l (x ∷ []) ∙ ap (λ (z : ℤ). total l +ℤ z) (total-one x)
 
--- one more of a list
+-- none of a list, and one more
+pub total-none : (l : List ℤ) → pos 0 ≡ total (take 0 l)
+unfolding total
+total-none l = refl
+
 pub total-next : (l : List ℤ) (i : ℕ) → i < length l → total (take (i + 1) l) ≡ total (take i l) +ℤ getD l i (pos 0)
 total-next l i h = rw (add-one, take-suc l i (pos 0)) (total-snoc (take i l) (getD l i (pos 0)))
 

@@ -1,7 +1,8 @@
 -- Laws of the schedule's definitions: of the days of a kind, of a half-hour's prices and of a row. Assumes nothing.
 use mathlib.Core.Path.{_≡_, refl, sym, ap, _∙_}
 use mathlib.Core.Bool.{Bool, true, false, not, _&&_, _||_}
-use mathlib.Core.List.{List, [], _++_, append-nil}
+use mathlib.Core.List.{List, [], _∷_, _++_}
+use mathlib.Core.Logic.{⊎-elim}
 use Prim.Native.Nat.{ℕ, zero, suc, _+_, _*_, _≤_, _<_}
 use native.Mathlib.Numerals.{add-one}
 use native.Mathlib.Omega.{arith}
@@ -9,39 +10,24 @@ use borrow.Author.Tests.{eq-eqb, ne-eqb, eqb-true, eqb-false, lt-ltb, le-ltb, lt
 use lib.Dec.{eqb, leb, ltb}
 use lib.IntN.{ℤ, pos, negsuc, natAbs, _+ℤ_}
 use lib.Signed.{leZ}
-use lib.ListN.{length, getD, set, length-append, length-set}
+use lib.ListN.{length, getD, set, length-append, length-set, List·getD-eq-default}
 use lib.Seq.{ext-getD, getD-set-same, getD-set-other}
 use Rattle.laws.specs.Base.{pick}
-use Rattle.laws.specs.Lists.{run, tabulate, anyBelow, countBelow, total}
+use Rattle.laws.specs.Lists.{run, tabulate, total}
 use Rattle.laws.proofs.Integers.{abs-add}
-use Rattle.laws.proofs.Lists.{countBelow-step, countBelow-most, length-run, getD-tabulate, tabulate-next, firstOf-passed, flat-lt}
-use Rattle.laws.proofs.Tests.{true-is, and-left, and-right, by-test}
-use Rattle.laws.proofs.Totals.{total-append, total-snoc, total-size}
+use Rattle.laws.proofs.Lists.{all-at, any-at, length-run, getD-tabulate, tabulate-same, firstOf-passed, flat-lt}
+use Rattle.laws.proofs.Tests.{true-is, and-left, and-right, by-test, lt-or-ge}
+use Rattle.laws.proofs.Totals.{total-append, total-size}
 use Rattle.pricing.specs.Verdict.{accepted, refused, refusedAt}
 use Rattle.pricing.specs.Holding.{lowest, inRange, limitsOk}
 use Rattle.pricing.specs.Rounding.{rounded}
-use Rattle.schedule.specs.Schedule.{Weeks, halfHour, pricesOf, daysOf, eachKind, hasKind, sizesOk, kindsOk, firstBad, mean, row, zeros, refusedBy, schedule}
-use Rattle.pricing.proofs.Roundings.{round-size}
-
--- one more day counted
-pub count-next : (d : ℕ) (t : ℕ → Bool) {n x : ℕ} → n ≡ countBelow d t → x ≡ pick (t d) 1 0 → (n + x ≡ countBelow (d + 1) t) × (n + x ≤ d + 1)
-count-next d t h e = let s = countBelow-step d t h e in (s, omega (arith, countBelow-most (d + 1) t))
-
--- ---- the total of a tabulated list: one more, and its size
-pub total-none : (f : ℕ → ℤ) → pos 0 ≡ total (tabulate 0 f)
-unfolding total run
-total-none f = refl
-
-pub total-more : (f : ℕ → ℤ) (n : ℕ) → total (tabulate n f) +ℤ f n ≡ total (tabulate (n + 1) f)
-total-more f n = rw (tabulate-next f n) (sym (total-snoc (tabulate n f) (f n)))
-
-tab-size : (b : ℕ) (f : ℕ → ℤ) (n : ℕ) → ((k : ℕ) → k < n → natAbs (f k) ≤ b) → natAbs (total (tabulate n f)) ≤ n * b
-tab-size b f n h =
-    let l = length-run f n 0 in
-    rw l at (total-size b (tabulate n f) (λ k p. rw (getD-tabulate f n k (pos 0) (omega arith)) (h k (omega arith))))
+use Rattle.schedule.specs.Schedule.{halfHour, pricesOf, eachKind, hasKind, sizesOk, kindsOk, firstBad, mean, scheduled, row, zeros, refusedBy, schedule}
+use Rattle.schedule.specs.Running.{totalsOf, countsOf}
+use Rattle.schedule.specs.Working.{Days, Means, heldMean, rowBy}
+use Rattle.schedule.proofs.Runs.{table-there}
 
 -- a total of numbers of at most 10,000,000 each
-abbrev pub Small : List ℤ → Type 0
+abbrev Small : List ℤ → Type 0
 Small l = natAbs (total l) ≤ length l * 10000000
 
 small-none : Small []
@@ -49,102 +35,69 @@ unfolding total
 small-none = omega arith
 
 small-append : (l m : List ℤ) → Small l → Small m → Small (l ++ m)
-small-append l m a b = rw (total-append l m, length-append l m) (omega (arith, abs-add (total l) (total m)))
+small-append l m p q = rw (total-append l m, length-append l m) (omega (arith, abs-add (total l) (total m)))
 
--- the prices of a half-hour, from 0 up
-abbrev pub inHalf : ℕ → List ℤ → ℕ → ℕ → ℕ → ℤ
-inHalf H prices d h j = getD prices (d * (6 * H) + 6 * h + j) (pos 0)
+-- ---- the six prices of a half-hour
+pub six-are : (f : ℕ → ℤ) {p0 p1 p2 p3 p4 p5 : ℤ} → p0 ≡ f 0 → p1 ≡ f 1 → p2 ≡ f 2 → p3 ≡ f 3 → p4 ≡ f 4 → p5 ≡ f 5
+    → p0 ∷ p1 ∷ p2 ∷ p3 ∷ p4 ∷ p5 ∷ [] ≡ tabulate 6 f
+unfolding run
+six-are f e0 e1 e2 e3 e4 e5 = λ i. e0 i ∷ e1 i ∷ e2 i ∷ e3 i ∷ e4 i ∷ e5 i ∷ []
 
--- whether a day is of a kind
-abbrev isOf : List ℕ → ℕ → ℕ → Bool
-isOf kinds kind d = eqb (getD kinds d 0) kind
+module _ (H : ℕ) (prices : List ℤ) (d h : ℕ) where
+  pub half-length : length (halfHour H prices d h) ≡ 6
+  half-length = length-run (λ j. getD prices (d * (6 * H) + 6 * h + j) (pos 0)) 6 0
 
--- ---- the six prices of a half-hour lie within the 28 days, and none is large
-module _ {H : ℕ} {prices : List ℤ} (w : Weeks H prices) {d h : ℕ} (here : (d < 28) × (h < H)) where
-  pub within : (d * (6 * H) + 6 * h + 6 ≤ length prices) × (length prices ≤ 8064)
-  within = (omega (arith, flat-lt d (6 * h + 5) 28 (6 * H) (here .0) (omega arith)), omega arith)
+  half-small : ((k : ℕ) → natAbs (getD prices k (pos 0)) ≤ 10000000) → Small (halfHour H prices d h)
+  half-small most =
+      total-size 10000000 (halfHour H prices d h)
+      (λ k p. rw (getD-tabulate (λ j. getD prices (d * (6 * H) + 6 * h + j) (pos 0)) 6 k (pos 0) (omega (arith, half-length))) (most (d * (6 * H) + 6 * h + k)))
 
-  half-ranged : (j : ℕ) → j < 6 → natAbs (inHalf H prices d h j) ≤ 10000000
-  half-ranged j k = w .ranged _ (omega (arith, within))
-
-  pub half-size : (n : ℕ) → n ≤ 6 → natAbs (total (tabulate n (inHalf H prices d h))) ≤ n * 10000000
-  half-size n k = tab-size 10000000 (inHalf H prices d h) n (λ j p. half-ranged j (omega arith))
-
-  pub half-small : Small (halfHour H prices d h)
-  half-small = rw (length-run (inHalf H prices d h) 6 0) (half-size 6 (omega arith))
+-- they lie within the 28 days
+pub within : {H : ℕ} {prices : List ℤ} {kinds : List ℕ} → Days H prices kinds → (d h : ℕ) → d < 28 → h < H → (d * (6 * H) + 6 * h + 6 ≤ length prices) × (length prices ≤ 8064)
+within {H} w d h p q = (omega (arith, w .size, flat-lt d (6 * h + 5) 28 (6 * H) p (omega arith)), omega (arith, w .size, w .halves))
 
 -- ---- the prices of a half-hour and kind, day by day
 module _ (H : ℕ) (prices : List ℤ) (kinds : List ℕ) (kind h : ℕ) where
-  pub prices-none : pos 0 ≡ total (pricesOf H prices kinds kind h 0)
-  unfolding pricesOf total
-  prices-none = refl
+  taken : (d : ℕ) → getD kinds d 0 ≡ kind → pricesOf H prices kinds kind h (d + 1) ≡ pricesOf H prices kinds kind h d ++ halfHour H prices d h
+  unfolding pricesOf
+  taken d e = rw (add-one, eq-eqb (getD kinds d 0) kind e)
 
+  -- a day of the kind: the total and the count with its six
   pub prices-taken : (d : ℕ) → getD kinds d 0 ≡ kind → total (pricesOf H prices kinds kind h d) +ℤ total (halfHour H prices d h) ≡ total (pricesOf H prices kinds kind h (d + 1))
+  prices-taken d e = rw (taken d e) (sym (total-append (pricesOf H prices kinds kind h d) (halfHour H prices d h)))
+
+  pub prices-longer : (d : ℕ) → getD kinds d 0 ≡ kind → length (pricesOf H prices kinds kind h d) + 6 ≡ length (pricesOf H prices kinds kind h (d + 1))
+  prices-longer d e = rw (taken d e, length-append (pricesOf H prices kinds kind h d) (halfHour H prices d h), half-length H prices d h)
+
+  -- at most six a day
+  pub prices-most : (n : ℕ) → length (pricesOf H prices kinds kind h n) ≤ 6 * n
   unfolding pricesOf
-  prices-taken d e = rw (add-one, eq-eqb (getD kinds d 0) kind e) (sym (total-append (pricesOf H prices kinds kind h d) (halfHour H prices d h)))
+  prices-most zero = omega arith
+  prices-most (suc n) =
+      rw (length-append (pricesOf H prices kinds kind h n) (pick (eqb (getD kinds n 0) kind) (halfHour H prices n h) []))
+      (by-test (eqb (getD kinds n 0) kind)
+      (λ e. rw e (omega (arith, half-length H prices n h, prices-most n)))
+      (λ e. rw e (omega (arith, prices-most n))))
 
-  pub prices-left : (d : ℕ) → (getD kinds d 0 ≡ kind → ⊥) → total (pricesOf H prices kinds kind h d) ≡ total (pricesOf H prices kinds kind h (d + 1))
+  -- some, where a day is of the kind
+  pub prices-some : (n d : ℕ) → d < n → eqb (getD kinds d 0) kind ≡ true → 1 ≤ length (pricesOf H prices kinds kind h n)
   unfolding pricesOf
-  prices-left d e = rw (add-one, ne-eqb (getD kinds d 0) kind e, append-nil)
+  prices-some zero d p e = absurd (omega arith)
+  prices-some (suc n) d p e =
+      rw (length-append (pricesOf H prices kinds kind h n) (pick (eqb (getD kinds n 0) kind) (halfHour H prices n h) []))
+      (⊎-elim
+      (λ (q : d < n). omega (arith, prices-some n d q e))
+      (λ (q : n ≤ d). let s : n ≡ d = omega arith in rw (ap (λ (i : ℕ). eqb (getD kinds i 0) kind) s ∙ e) (omega (arith, half-length H prices n h)))
+      (lt-or-ge d n))
 
-  -- six a day of the kind
-  pub prices-length : (n : ℕ) → length (pricesOf H prices kinds kind h n) ≡ 6 * countBelow n (isOf kinds kind)
-  unfolding pricesOf countBelow
-  prices-length zero = refl
-  prices-length (suc n) =
-      length-append (pricesOf H prices kinds kind h n) (pick (eqb (getD kinds n 0) kind) (halfHour H prices n h) [])
-      ∙ by-test (eqb (getD kinds n 0) kind)
-      (λ e. rw (e, length-run (inHalf H prices n h) 6 0, prices-length n) (omega arith))
-      (λ e. rw (e, prices-length n) (omega arith))
-
-  -- the mean, as the code divides
-  pub mean-is : rounded (total (pricesOf H prices kinds kind h 28)) (6 * daysOf kinds kind) ≡ mean (pricesOf H prices kinds kind h 28)
-  unfolding mean
-  mean-is = ap (rounded (total (pricesOf H prices kinds kind h 28))) (sym (prices-length 28))
-
--- none is large, so their total is not
-module _ {H : ℕ} {prices : List ℤ} (kinds : List ℕ) (kind : ℕ) {h : ℕ} (w : Weeks H prices) (half : h < H) where
-  pub prices-small : (n : ℕ) → n ≤ 28 → Small (pricesOf H prices kinds kind h n)
+  -- none is large, so their total is not
+  pub prices-small : ((k : ℕ) → natAbs (getD prices k (pos 0)) ≤ 10000000) → (n : ℕ) → Small (pricesOf H prices kinds kind h n)
   unfolding pricesOf
-  prices-small zero k = small-none
-  prices-small (suc n) k =
+  prices-small most zero = small-none
+  prices-small most (suc n) =
       small-append (pricesOf H prices kinds kind h n) (pick (eqb (getD kinds n 0) kind) (halfHour H prices n h) [])
-      (prices-small n (omega arith))
-      (by-test (eqb (getD kinds n 0) kind) (λ e. rw e (half-small w (omega arith, half))) (λ e. rw e small-none))
-
-  pub prices-bound : (n : ℕ) → n ≤ 28 → natAbs (total (pricesOf H prices kinds kind h n)) ≤ 1680000000
-  prices-bound n k =
-      omega (arith, prices-small n k, prices-length H prices kinds kind h n, countBelow-most n (isOf kinds kind))
-
--- ---- a kind that some day has
-any-counts : (n : ℕ) (t : ℕ → Bool) → anyBelow n t ≡ true → 1 ≤ countBelow n t
-unfolding anyBelow countBelow
-any-counts zero t e = absurd (true-is e)
-any-counts (suc n) t e = go (t n) (anyBelow n t) (any-counts n t) e
-  where
-    go : (b a : Bool) → (a ≡ true → 1 ≤ countBelow n t) → (a || b) ≡ true → 1 ≤ countBelow n t + pick b 1 0
-    go true a i e = omega arith
-    go false true i e = omega (arith, i refl)
-    go false false i e = absurd (true-is e)
-
--- both kinds, where the kinds pass
-pub both-kinds : (kinds : List ℕ) → kindsOk kinds ≡ true → (hasKind kinds 0 ≡ true) × (hasKind kinds 1 ≡ true)
-both-kinds kinds e = (
-  and-right (eachKind kinds) (hasKind kinds 0) (and-left (eachKind kinds && hasKind kinds 0) (hasKind kinds 1) e),
-  and-right (eachKind kinds && hasKind kinds 0) (hasKind kinds 1) e,
-)
-
-module _ (kinds : List ℕ) (kind : ℕ) (has : hasKind kinds kind ≡ true) where
-  pub days-some : (1 ≤ daysOf kinds kind) × (daysOf kinds kind ≤ 28)
-  days-some = (any-counts 28 (isOf kinds kind) has, countBelow-most 28 (isOf kinds kind))
-
-  module _ {H : ℕ} {prices : List ℤ} {h : ℕ} (w : Weeks H prices) (half : h < H) where
-    pub mean-size : natAbs (mean (pricesOf H prices kinds kind h 28)) ≤ 10000000
-    unfolding mean
-    mean-size =
-        let s = prices-small kinds kind w half 28 (omega arith) in
-        let l = prices-length H prices kinds kind h 28 in
-        round-size (total (pricesOf H prices kinds kind h 28)) (length (pricesOf H prices kinds kind h 28)) 10000000 (omega (arith, days-some)) (omega arith)
+      (prices-small most n)
+      (by-test (eqb (getD kinds n 0) kind) (λ e. rw e (half-small H prices n h most)) (λ e. rw e small-none))
 
 -- ---- a row that is filled from the front: f at the places below h, zeros from there up
 module _ (f : ℕ → ℤ) where
@@ -195,13 +148,56 @@ module _ (H : ℕ) (prices : List ℤ) (kinds : List ℕ) (e : sizesOk H prices 
         (eqb-true (length prices) (28 * (6 * H)) (and-right (a && b) p abp), eqb-true (length kinds) 28 (and-right (a && b && p) k e)),
       )
 
-  pub weeks : (energy : Bool) → length prices ≤ firstBad energy prices → Weeks H prices
-  weeks energy none =
+  -- what the pass is given
+  pub days : kindsOk kinds ≡ true → Days H prices kinds
+  days k =
+      let each = and-left (eachKind kinds) (hasKind kinds 0) (and-left (eachKind kinds && hasKind kinds 0) (hasKind kinds 1) k) in
       record {
         halves = sizes .0;
         size = sizes .1 .0;
-        ranged = λ k p. range-size energy (getD prices k (pos 0)) (not-false (inRange energy (getD prices k (pos 0))) (firstOf-passed (length prices) (λ k. not (inRange energy (getD prices k (pos 0)))) k (omega arith)));
+        days = sizes .1 .1;
+        kind = λ d p. leb-true (getD kinds d 0) 1 (all-at 28 (λ d. leb (getD kinds d 0) 1) each d p);
       }
+
+-- both kinds, where the kinds pass
+pub both-kinds : (kinds : List ℕ) → kindsOk kinds ≡ true → (hasKind kinds 0 ≡ true) × (hasKind kinds 1 ≡ true)
+both-kinds kinds e = (
+  and-right (eachKind kinds) (hasKind kinds 0) (and-left (eachKind kinds && hasKind kinds 0) (hasKind kinds 1) e),
+  and-right (eachKind kinds && hasKind kinds 0) (hasKind kinds 1) e,
+)
+
+-- every price is at most 10,000,000, where none is out of range
+ranged : (energy : Bool) (prices : List ℤ) → length prices ≤ firstBad energy prices → (k : ℕ) → natAbs (getD prices k (pos 0)) ≤ 10000000
+ranged energy prices none k =
+    ⊎-elim
+    (λ (p : k < length prices). range-size energy (getD prices k (pos 0)) (not-false (inRange energy (getD prices k (pos 0))) (firstOf-passed (length prices) (λ k. not (inRange energy (getD prices k (pos 0)))) k (omega arith))))
+    (λ (p : length prices ≤ k). rw (List·getD-eq-default prices (pos 0) p) (omega arith))
+    (lt-or-ge k (length prices))
+
+-- ---- the totals and counts of all 28 days
+module _ {H : ℕ} {prices : List ℤ} {kinds : List ℕ} (w : Days H prices kinds) (kind : ℕ) (one : kind ≤ 1) where
+  -- have means
+  pub means : (energy : Bool) → length prices ≤ firstBad energy prices → hasKind kinds kind ≡ true → Means H (totalsOf H prices kinds 28) (countsOf H prices kinds 28) kind
+  means energy none has =
+      record {
+        halves = w .halves .1;
+        kinds = one;
+        meaned = λ h p.
+            let q : h < 48 = omega (arith, w .halves) in
+            let d = any-at 28 (λ d. eqb (getD kinds d 0) kind) has in
+            rw (table-there total (pos 0) H prices kinds (λ _. 28) kind h one q p, table-there length 0 H prices kinds (λ _. 28) kind h one q p) (
+              (prices-some H prices kinds kind h 28 (d .0) (d .1) (d .2), omega (arith, prices-most H prices kinds kind h 28)),
+              prices-small H prices kinds kind h (ranged energy prices none) 28,
+            );
+      }
+
+  -- and make the row
+  pub row-is : (low cap : ℤ) → rowBy H low cap (totalsOf H prices kinds 28) (countsOf H prices kinds 28) kind ≡ row H low cap prices kinds kind
+  unfolding heldMean scheduled mean
+  row-is low cap = tabulate-same 48 _ _ (λ h q. by-test (ltb h H) (λ t. rw t (at h q (ltb-true h H t))) (λ t. rw t))
+    where
+      at : (h : ℕ) → h < 48 → h < H → heldMean (getD (totalsOf H prices kinds 28) (kind * 48 + h) (pos 0)) (getD (countsOf H prices kinds 28) (kind * 48 + h) 0) low cap ≡ scheduled H low cap prices kinds kind h
+      at h q p = rw (table-there total (pos 0) H prices kinds (λ _. 28) kind h one q p, table-there length 0 H prices kinds (λ _. 28) kind h one q p)
 
 -- ---- the schedule, a law for each way out
 module _ (H : ℕ) (cap floor : ℤ) (energy : Bool) (prices : List ℤ) (kinds : List ℕ) where

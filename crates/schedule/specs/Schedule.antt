@@ -1,13 +1,12 @@
 -- The suspension schedule of one market from four weeks of prices. Assumes nothing.
-use mathlib.Core.Bool.{Bool, true, false, not, _&&_}
+use mathlib.Core.Bool.{Bool, not, _&&_}
 use mathlib.Core.List.{List, [], _++_}
-use mathlib.Core.Path.{_≡_}
-use Prim.Native.Nat.{ℕ, zero, suc, _+_, _*_, _≤_, _<_}
+use Prim.Native.Nat.{ℕ, zero, suc, _+_, _*_}
 use lib.Dec.{eqb, leb, ltb}
-use lib.IntN.{ℤ, pos, natAbs}
+use lib.IntN.{ℤ, pos}
 use lib.ListN.{length, getD, replicate}
 use Rattle.laws.specs.Base.{pick}
-use Rattle.laws.specs.Lists.{tabulate, allBelow, anyBelow, countBelow, firstOf, total}
+use Rattle.laws.specs.Lists.{tabulate, allBelow, anyBelow, firstOf, total}
 use Rattle.schedule.specs.declared.Making.{Making}
 use Rattle.schedule.specs.declared.Making.the-variants.{Made, Sizes, Kinds, Limits, Price}
 use Rattle.schedule.specs.declared.Answer.{Answer}
@@ -40,10 +39,6 @@ unfoldable pub pricesOf : ℕ → List ℤ → List ℕ → ℕ → ℕ → ℕ 
 pricesOf H prices kinds kind h zero = []
 pricesOf H prices kinds kind h (suc n) =
     pricesOf H prices kinds kind h n ++ pick (eqb (getD kinds n 0) kind) (halfHour H prices n h) []
-
--- how many of the 28 days are of a kind
-abbrev pub daysOf : List ℕ → ℕ → ℕ
-daysOf kinds kind = countBelow 28 (λ d. eqb (getD kinds d 0) kind)
 
 -- "the mean .., rounded half away from zero"
 unfoldable pub mean : List ℤ → ℤ
@@ -93,9 +88,3 @@ schedule H cap floor energy prices kinds =
       weekday = row H (lowest energy floor) cap prices kinds 0;
       weekend = row H (lowest energy floor) cap prices kinds 1;
     }))))
-
--- what the maker's helpers are given: 28 days of prices, each in range
-pub record Weeks (H : ℕ) (prices : List ℤ) : Type 0 where
-  pub halves : (1 ≤ H) × (H ≤ 48)
-  pub size : length prices ≡ 28 * (6 * H)
-  pub ranged : (k : ℕ) → k < length prices → natAbs (getD prices k (pos 0)) ≤ 10000000

@@ -1,18 +1,17 @@
-// The suspension schedule of one market from four weeks of prices.
+// The suspension schedule of one market from four weeks of prices, which are gone through once.
+mod pass;
+
+use crate::pass::add_days;
 use pricing::holding::held;
-use pricing::holding::in_range;
 use pricing::holding::limits_ok;
 use pricing::holding::lowest;
 use pricing::rounding::rounded;
 ghost use mathlib.Core.Path.{_≡_};
-ghost use mathlib.Core.Bool.{true};
 ghost use mathlib.Core.List.{[], _∷_};
-ghost use Prim.Native.Nat.{_<_};
 ghost use lib.ListN.{length};
-ghost use Rattle.laws.specs.Base.{pick};
-ghost use Rattle.laws.specs.Lists.{total};
 ghost use Rattle.pricing.specs.Holding.{isEnergy};
-ghost use Rattle.schedule.specs.Schedule.{halfHour, pricesOf, daysOf, scheduled, row, sizesOk, eachKind, hasKind, kindsOk, firstBad, Weeks, verdictOf, refusedBy, answered, schedule};
+ghost use Rattle.schedule.specs.Schedule.{sizesOk, eachKind, hasKind, kindsOk, verdictOf, refusedBy, answered, schedule};
+ghost use Rattle.schedule.specs.Working.{Meaned, Means, heldMean, rowBy};
 
 // What became of a call: the schedule, or the first refusal.
 pub enum Making {
@@ -72,116 +71,44 @@ fn kinds_ok(kinds: &[u8]) -> bool
     each_kind(kinds) & has_kind(kinds, 0) & has_kind(kinds, 1)
 }
 
-// The place of the first price out of range, or the number of prices.
-fn first_bad(market: usize, prices: &[i32]) -> usize
-    ensures { λ r. ⌜ r ≡ firstBad (isEnergy market) (now (prices .entry)) ⌝ }
+// The mean of so many prices, held within the limits.
+fn held_mean(sum: i64, count: u32, low: i32, cap: i32) -> i32
+    requires { ⌜ Meaned sum count ⌝ }
+    ensures { λ r. ⌜ r ≡ heldMean sum count low cap ⌝ }
 {
-    let mut k: usize = 0;
-    while k < prices.len() {
-        if !in_range(market, prices[k]) {
-            return k;
-        }
-        k += 1;
-    }
-    k
+    held(rounded(sum, count as i64) as i32, low, cap)
 }
 
-// The sum of the six prices of a half-hour of a day.
-fn half_hour(halves: usize, prices: &[i32], d: usize, h: usize) -> i64
-    requires { ⌜ Weeks halves (now prices) ⌝ }
-    requires { ⌜ (d < 28) × (h < halves) ⌝ }
-    ensures { λ r. ⌜ r ≡ total (halfHour halves (now (prices .entry)) d h) ⌝ }
-{
-    let from = d * (6 * halves) + 6 * h;
-    let mut sum: i64 = 0;
-    let mut j: usize = 0;
-    while j < 6 {
-        sum += prices[from + j] as i64;
-        j += 1;
-    }
-    sum
-}
-
-// The sum of all prices of a half-hour and kind.
-fn sum_of(halves: usize, prices: &[i32], kinds: &[u8], kind: u8, h: usize) -> i64
-    requires { ⌜ Weeks halves (now prices) ⌝ }
-    requires { ⌜ (length (now kinds) ≡ 28) × (h < halves) ⌝ }
-    ensures { λ r. ⌜ r ≡ total (pricesOf halves (now (prices .entry)) (now (kinds .entry)) kind h 28) ⌝ }
-{
-    let mut sum: i64 = 0;
-    let mut d: usize = 0;
-    while d < 28 {
-        if kinds[d] == kind {
-            sum += half_hour(halves, prices, d, h);
-        }
-        d += 1;
-    }
-    sum
-}
-
-// How many days are of a kind.
-fn days_of(kinds: &[u8], kind: u8) -> usize
-    requires { ⌜ length (now kinds) ≡ 28 ⌝ }
-    ensures { λ r. ⌜ r ≡ daysOf (now (kinds .entry)) kind ⌝ }
-{
-    let mut n: usize = 0;
-    let mut d: usize = 0;
-    while d < 28 {
-        n += one_if(kinds[d] == kind);
-        d += 1;
-    }
-    n
-}
-
-fn one_if(test: bool) -> usize
-    ensures { λ r. ⌜ r ≡ pick test 1 0 ⌝ }
-{
-    if test { 1 } else { 0 }
-}
-
-// The mean of a half-hour and kind, held within the limits.
-fn scheduled(
+// A row: the held mean of each half-hour of a kind, then zeros.
+fn row(
     halves: usize,
     low: i32,
     cap: i32,
-    prices: &[i32],
-    kinds: &[u8],
-    kind: u8,
-    h: usize,
-) -> i32
-    requires { ⌜ Weeks halves (now prices) ⌝ }
-    requires { ⌜ (length (now kinds) ≡ 28) × ((hasKind (now kinds) kind ≡ true) × (h < halves)) ⌝ }
-    ensures { λ r. ⌜ r ≡ scheduled halves low cap (now (prices .entry)) (now (kinds .entry)) kind h ⌝ }
-{
-    let sum = sum_of(halves, prices, kinds, kind, h);
-    let n = 6 * days_of(kinds, kind);
-    held(rounded(sum, n as i64) as i32, low, cap)
-}
-
-// A row: the scheduled price of each half-hour, then zeros.
-fn row(halves: usize, low: i32, cap: i32, prices: &[i32], kinds: &[u8], kind: u8) -> [i32; 48]
-    requires { ⌜ Weeks halves (now prices) ⌝ }
-    requires { ⌜ (length (now kinds) ≡ 28) × (hasKind (now kinds) kind ≡ true) ⌝ }
-    ensures { λ r. ⌜ r ≡ row halves low cap (now (prices .entry)) (now (kinds .entry)) kind ⌝ }
+    totals: &[i64; 96],
+    counts: &[u32; 96],
+    kind: usize,
+) -> [i32; 48]
+    requires { ⌜ Means halves (now totals) (now counts) kind ⌝ }
+    ensures { λ r. ⌜ r ≡ rowBy halves low cap (now (totals .entry)) (now (counts .entry)) kind ⌝ }
 {
     let mut all = [0i32; 48];
     let mut h: usize = 0;
     while h < halves {
-        all[h] = scheduled(halves, low, cap, prices, kinds, kind, h);
+        let k = kind * 48 + h;
+        all[h] = held_mean(totals[k], counts[k], low, cap);
         h += 1;
     }
     all
 }
 
 // The inner maker: the two rows, a row a kind.
-fn rows(halves: usize, low: i32, cap: i32, prices: &[i32], kinds: &[u8]) -> [[i32; 48]; 2]
-    requires { ⌜ Weeks halves (now prices) ⌝ }
-    requires { ⌜ (length (now kinds) ≡ 28) × (kindsOk (now kinds) ≡ true) ⌝ }
-    ensures { λ r. ⌜ r ≡ row halves low cap (now (prices .entry)) (now (kinds .entry)) 0 ∷ row halves low cap (now (prices .entry)) (now (kinds .entry)) 1 ∷ [] ⌝ }
+fn rows(halves: usize, low: i32, cap: i32, totals: &[i64; 96], counts: &[u32; 96]) -> [[i32; 48]; 2]
+    requires { ⌜ Means halves (now totals) (now counts) 0 × Means halves (now totals) (now counts) 1 ⌝ }
+    ensures { λ r. ⌜ (let by = rowBy halves low cap (now (totals .entry)) (now (counts .entry)) in r ≡ by 0 ∷ by 1 ∷ []) ⌝ }
 {
     [
-        row(halves, low, cap, prices, kinds, 0),
-        row(halves, low, cap, prices, kinds, 1),
+        row(halves, low, cap, totals, counts, 0),
+        row(halves, low, cap, totals, counts, 1),
     ]
 }
 
@@ -223,11 +150,26 @@ pub fn schedule(
         return refused(Making::Limits);
     }
     let market = market_of(energy);
-    let bad = first_bad(market, prices);
+    let mut totals = [0i64; 96];
+    let mut counts = [0u32; 96];
+    let bad = add_days(
+        halves as usize,
+        market,
+        prices,
+        kinds,
+        &mut totals,
+        &mut counts,
+    );
     if bad < prices.len() {
         return refused(Making::Price(bad));
     }
-    let all = rows(halves as usize, lowest(market, floor), cap, prices, kinds);
+    let all = rows(
+        halves as usize,
+        lowest(market, floor),
+        cap,
+        &totals,
+        &counts,
+    );
     Answer {
         making: Making::Made,
         weekday: all[0],

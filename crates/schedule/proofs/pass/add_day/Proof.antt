@@ -1,0 +1,278 @@
+-- `schedule::pass::add_day` meets its contract. The loop's invariant: totals, counts and first bad price are those of the half-hours passed. Assumes nothing.
+use mathlib.Core.Path.{_≡_, refl, ap, ap₂, sym, _∙_}
+use mathlib.Core.List.{List}
+use Prim.Native.Nat.{ℕ, _+_, _*_, _-_, _≤_, _<_}
+use native.Mathlib.Nat.{add-zero}
+use native.Mathlib.Omega.{arith}
+use borrow.Author.Needs.{needs}
+use lib.IntN.{ℤ, pos, natAbs, _+ℤ_}
+use lib.ListN.{length, getD}
+use mir.Syntax.{w64}
+use mir.Val.{SFits, toZ, ofZ}
+use mir.Facts.{toZ-ofZ}
+use Rattle.laws.specs.Lists.{total, placesOf}
+use Rattle.laws.proofs.Integers.{signed, abs-add, abs-fits}
+use Rattle.pricing.specs.Holding.{isEnergy}
+use Rattle.schedule.specs.Schedule.{pricesOf, halfHour}
+use Rattle.schedule.specs.Running.{badIn}
+use Rattle.schedule.specs.Working.{Room, badWith}
+use Rattle.schedule.proofs.Runs.{table, table-size, table-there, during, day-none, day-done, half-was, half-step, room-set, badBefore, bad-step, bad-done}
+use Rattle.schedule.proofs.Schedules.{within, prices-taken, prices-longer, prices-most}
+use Rattle.schedule.proofs.pass.add_day.Statement.{statement}
+use Rattle.schedule.proofs.pass.add_day.Tie as tie
+
+abbrev Inv-loop : tie.InvT-loop
+Inv-loop halves market prices kinds d found totals₀ counts₀ row first bad₀ h₀ totals counts bad h =
+    (h ≤ halves)
+    × (bad ≡ badBefore (isEnergy market) prices (d * (6 * halves) + 6 * h) (d * (6 * halves) + 6 * halves))
+    × (totals ≡ table total (pos 0) halves prices kinds (during d h))
+    × (counts ≡ table length 0 halves prices kinds (during d h))
+    × Room (d + 1) totals
+
+abbrev μ-loop : tie.MeasureT-loop
+μ-loop halves market prices kinds d found totals₀ counts₀ row first bad₀ h₀ totals counts bad h = halves - h
+
+-- ---- where the day and a half-hour of it lie
+module _ (s : tie.Start Inv-loop μ-loop) where
+  day-in : (s .args .d * (6 * s .args .halves) + 6 * s .args .halves ≤ 8064) × (s .args .halves ≤ 48)
+  day-in = let w = s .pre .0 .0 in (omega (arith, w .halves, within w (s .args .d) (s .args .halves - 1) (s .pre .0 .1) (omega (arith, w .halves))), w .halves .1)
+
+  kind-in : getD (s .args .kinds .now) (s .args .d) 0 ≤ 1
+  kind-in = s .pre .0 .0 .kind (s .args .d) (s .pre .0 .1)
+
+shared-slice-read-row : tie.Need-shared-slice-read-row Inv-loop μ-loop
+shared-slice-read-row c = let s = c .before .before in omega (arith, s .pre .0 .0 .days, s .pre .0 .1)
+
+cast-row : tie.Need-cast-row Inv-loop μ-loop
+cast-row c = omega (arith, kind-in (c .before .before))
+
+mul-row : tie.Need-mul-row Inv-loop μ-loop
+mul-row c = omega (arith, kind-in (c .before .before))
+
+mul-first : tie.Need-mul-first Inv-loop μ-loop
+mul-first c = omega (arith, day-in (c .before .before))
+
+mul-first-2 : tie.Need-mul-first-2 Inv-loop μ-loop
+mul-first-2 c = omega (arith, day-in (c .before .before))
+
+mul-first-of : tie.Need-mul-first-of Inv-loop μ-loop
+mul-first-of c = omega (arith, day-in (c .before .before))
+
+first-of-requires : tie.Need-first-of-requires Inv-loop μ-loop
+first-of-requires c κs = omega (arith, day-in (c .before .before))
+
+loop-holds : tie.Need-loop-holds Inv-loop μ-loop
+loop-holds c =
+    let s = c .before .before .before in
+    let a = s .args in (
+      omega arith,
+      c .first-of .ensures ∙ rw (add-zero (a .d * (6 * a .halves)), s .pre .1 .0),
+      s .pre .1 .1 .0 ∙ day-none total (pos 0) (a .halves) (a .prices .now) (a .kinds .now) (a .d),
+      s .pre .1 .1 .1 ∙ day-none length 0 (a .halves) (a .prices .now) (a .kinds .now) (a .d),
+      λ k. omega (arith, s .pre .0 .2 k),
+    )
+
+-- the half-hour of a turn
+module _ (c : tie.In-loop Inv-loop μ-loop) where
+  abbrev start : tie.Start Inv-loop μ-loop
+  start = c .before .before .before .before .before
+
+  half-in : (start .args .d * (6 * start .args .halves) + 6 * c .before .loop .h + 6 ≤ length (start .args .prices .now)) × (length (start .args .prices .now) ≤ 8064)
+  half-in = within (start .pre .0 .0) (start .args .d) (c .before .loop .h) (start .pre .0 .1) (c .loop-test .taken)
+
+  place-in : getD (start .args .kinds .now) (start .args .d) 0 * 48 + c .before .loop .h < 96
+  place-in = omega (arith, kind-in start, day-in start, c .loop-test .taken)
+
+mul-from : tie.Need-mul-from Inv-loop μ-loop
+mul-from c = omega (arith, half-in c)
+
+add-from : tie.Need-add-from Inv-loop μ-loop
+add-from c = omega (arith, half-in c)
+
+half-hour-requires : tie.Need-half-hour-requires Inv-loop μ-loop
+half-hour-requires c κs = omega (arith, half-in c)
+
+bad-with-requires : tie.Need-bad-with-requires Inv-loop μ-loop
+bad-with-requires c κs = omega (arith, half-in (c .before))
+
+add-k : tie.Need-add-k Inv-loop μ-loop
+add-k c = omega (arith, place-in (c .before .before))
+
+mul-totals : tie.Need-mul-totals Inv-loop μ-loop
+mul-totals c = omega (arith, place-in (c .before .before))
+
+element-copy-out-totals : tie.Need-element-copy-out-totals Inv-loop μ-loop
+element-copy-out-totals c = omega (arith, place-in (c .before .before))
+
+sum-of-requires : tie.Need-sum-of-requires Inv-loop μ-loop
+sum-of-requires c κs = search needs
+
+-- the total with the day's six prices, and its size
+module _ (c : tie.After-sum-of Inv-loop μ-loop) where
+  abbrev turn : tie.In-loop Inv-loop μ-loop
+  turn = c .before .before .before .before
+
+  abbrev call : tie.Start Inv-loop μ-loop
+  call = turn .before .before .before .before .before
+
+  abbrev half : ℕ
+  half = turn .before .loop .h
+
+  abbrev kind : ℕ
+  kind = getD (call .args .kinds .now) (call .args .d) 0
+
+  abbrev old : ℤ
+  old = getD (turn .before .loop .totals) (kind * 48 + half) (pos 0)
+
+  abbrev prices : ℕ → List ℤ
+  prices n = let a = call .args in pricesOf (a .halves) (a .prices .now) (a .kinds .now) kind half n
+
+  below-48 : half < 48
+  below-48 = omega (arith, day-in call, turn .loop-test .taken)
+
+  old-is : old ≡ total (prices (call .args .d))
+  old-is =
+      let a = call .args in
+      half-was total (pos 0) (a .halves) (a .prices .now) (a .kinds .now) (a .d) half below-48 (turn .loop-test .taken) (kind-in call) (turn .before .loop .totals) (turn .before .loop .inv .2)
+
+  was-there : getD (call .args .totals .now) (kind * 48 + half) (pos 0) ≡ total (prices (call .args .d))
+  was-there =
+      let a = call .args in
+      ap (λ (l : List ℤ). getD l (kind * 48 + half) (pos 0)) (call .pre .1 .1 .0)
+      ∙ table-there total (pos 0) (a .halves) (a .prices .now) (a .kinds .now) (λ _. a .d) kind half (kind-in call) below-48 (turn .loop-test .taken)
+
+  old-size : natAbs old ≤ call .args .d * 12884901888
+  old-size = rw (old-is, ← was-there) (call .pre .0 .2 (kind * 48 + half))
+
+  new-is : old +ℤ c .sum-of .result ≡ total (prices (call .args .d + 1))
+  new-is =
+      let a = call .args in
+      let six : c .sum-of .result ≡ total (halfHour (a .halves) (a .prices .now) (a .d) half) = c .sum-of .ensures .0 ∙ ap total (c .before .before .before .half-hour .ensures) in
+      ap₂ (λ (x y : ℤ). x +ℤ y) old-is six ∙ prices-taken (a .halves) (a .prices .now) (a .kinds .now) kind half (a .d) refl
+
+  new-size : natAbs (old +ℤ c .sum-of .result) ≤ (call .args .d + 1) * 12884901888
+  new-size = omega (arith, abs-add old (c .sum-of .result), old-size, c .sum-of .ensures .1)
+
+  new-fits : SFits w64 (old +ℤ c .sum-of .result)
+  new-fits = abs-fits w64 (old +ℤ c .sum-of .result) (omega (arith, new-size, call .pre .0 .1))
+
+  -- as the machine adds
+  added : toZ w64 (ofZ w64 old) +ℤ toZ w64 (ofZ w64 (c .sum-of .result)) ≡ old +ℤ c .sum-of .result
+  added =
+      let f : SFits w64 old = search needs in
+      let g : SFits w64 (c .sum-of .result) = search needs in
+      rw (toZ-ofZ f, toZ-ofZ g)
+
+add-totals : tie.Need-add-totals Inv-loop μ-loop
+add-totals c = rw (added c) (new-fits c)
+
+mul-t26 : tie.Need-mul-t26 Inv-loop μ-loop
+mul-t26 c = omega (arith, place-in (c .before .before .before .before))
+
+element-set-from-totals : tie.Need-element-set-from-totals Inv-loop μ-loop
+element-set-from-totals c = omega (arith, place-in (c .before .before .before .before))
+
+mul-counts : tie.Need-mul-counts Inv-loop μ-loop
+mul-counts c = omega (arith, place-in (c .before .before .before .before))
+
+element-copy-out-counts : tie.Need-element-copy-out-counts Inv-loop μ-loop
+element-copy-out-counts c = omega (arith, place-in (c .before .before .before .before))
+
+-- the count that stood there
+count-was : (c : tie.After-sum-of Inv-loop μ-loop) → getD (turn c .before .loop .counts) (kind c * 48 + half c) 0 ≡ length (prices c (call c .args .d))
+count-was c =
+    let a = call c .args in
+    half-was length 0 (a .halves) (a .prices .now) (a .kinds .now) (a .d) (half c) (below-48 c) (turn c .loop-test .taken) (kind-in (call c)) (turn c .before .loop .counts) (turn c .before .loop .inv .3)
+
+add-counts : tie.Need-add-counts Inv-loop μ-loop
+add-counts c =
+    let a = call (c .before) .args in
+    omega (arith, count-was (c .before), prices-most (a .halves) (a .prices .now) (a .kinds .now) (kind (c .before)) (half (c .before)) (a .d), call (c .before) .pre .0 .1)
+
+mul-counts-2 : tie.Need-mul-counts-2 Inv-loop μ-loop
+mul-counts-2 c = omega (arith, place-in (c .before .before .before .before .before))
+
+element-write-counts : tie.Need-element-write-counts Inv-loop μ-loop
+element-write-counts c = omega (arith, place-in (c .before .before .before .before .before))
+
+add-h : tie.Need-add-h Inv-loop μ-loop
+add-h c = omega (arith, half-in (c .before .before .before .before .before))
+
+loop-less : tie.Need-loop-less Inv-loop μ-loop
+loop-less c = omega (arith, half-in (c .before .before .before .before .before))
+
+loop-again : tie.Need-loop-again Inv-loop μ-loop
+loop-again c =
+    let t = c .before in
+    let a = call t .args in
+    let l = turn t .before .loop in
+    let from = a .d * (6 * a .halves) + 6 * half t in
+    let next : a .d * (6 * a .halves) + 6 * (half t + 1) ≡ from + 6 = omega arith in (
+      omega (arith, turn t .loop-test .taken),
+      c .before .before .before .bad-with .ensures
+          ∙ ap₂ (λ (six : List ℤ) (bad : ℕ). badWith (isEnergy (a .market)) six bad from) (c .before .before .before .before .half-hour .ensures) (l .inv .1)
+          ∙ bad-step (isEnergy (a .market)) (a .prices .now) from (a .d * (6 * a .halves) + 6 * a .halves) (omega (arith, turn t .loop-test .taken))
+          ∙ ap (λ (n : ℕ). badBefore (isEnergy (a .market)) (a .prices .now) n (a .d * (6 * a .halves) + 6 * a .halves)) (sym next),
+      half-step total (pos 0) (a .halves) (a .prices .now) (a .kinds .now) (a .d) (half t) (below-48 t) (turn t .loop-test .taken) (kind-in (call t)) (l .totals) _ (l .inv .2)
+          (ap (λ (z : ℤ). toZ w64 (ofZ w64 z)) (added t) ∙ toZ-ofZ (new-fits t) ∙ new-is t),
+      half-step length 0 (a .halves) (a .prices .now) (a .kinds .now) (a .d) (half t) (below-48 t) (turn t .loop-test .taken) (kind-in (call t)) (l .counts) _ (l .inv .3)
+          (rw (count-was t) (prices-longer (a .halves) (a .prices .now) (a .kinds .now) (kind t) (half t) (a .d) refl)),
+      room-set ((a .d + 1) * 12884901888) (kind t * 48 + half t) (l .totals) _ (l .inv .4) (omega (arith, place-in (turn t), ap length (l .inv .2), table-size total (pos 0) (a .halves) (a .prices .now) (a .kinds .now) (during (a .d) (half t))))
+          (rw (added t, toZ-ofZ (new-fits t)) (new-size t)),
+    )
+
+returns : tie.Need-returns Inv-loop μ-loop
+returns c =
+    let l = c .before .loop in
+    let a = c .before .before .before .before .before .args in
+    let e : l .h ≡ a .halves = omega arith in
+    let end : a .d * (6 * a .halves) + 6 * a .halves ≡ (a .d + 1) * (6 * a .halves) = omega arith in (
+      l .inv .1
+          ∙ ap (λ (h : ℕ). badBefore (isEnergy (a .market)) (a .prices .now) (a .d * (6 * a .halves) + 6 * h) (a .d * (6 * a .halves) + 6 * a .halves)) e
+          ∙ bad-done (isEnergy (a .market)) (a .prices .now) (a .d * (6 * a .halves) + 6 * a .halves)
+          ∙ ap (badIn (isEnergy (a .market)) (a .prices .now)) end,
+      (
+        l .inv .2 ∙ ap (λ (h : ℕ). table total (pos 0) (a .halves) (a .prices .now) (a .kinds .now) (during (a .d) h)) e
+            ∙ day-done total (pos 0) (a .halves) (a .prices .now) (a .kinds .now) (a .d),
+        (
+          l .inv .3 ∙ ap (λ (h : ℕ). table length 0 (a .halves) (a .prices .now) (a .kinds .now) (during (a .d) h)) e
+              ∙ day-done length 0 (a .halves) (a .prices .now) (a .kinds .now) (a .d),
+          l .inv .4,
+        ),
+      ),
+    )
+
+pub add-day-spec : {M : Type 1} → statement M
+add-day-spec =
+    tie.close
+    (tie.spec
+    Inv-loop
+    μ-loop
+    shared-slice-read-row
+    cast-row
+    mul-row
+    mul-first
+    mul-first-2
+    mul-first-of
+    first-of-requires
+    loop-holds
+    mul-from
+    add-from
+    half-hour-requires
+    bad-with-requires
+    add-k
+    mul-totals
+    element-copy-out-totals
+    sum-of-requires
+    add-totals
+    mul-t26
+    element-set-from-totals
+    mul-counts
+    element-copy-out-counts
+    add-counts
+    mul-counts-2
+    element-write-counts
+    add-h
+    loop-less
+    loop-again
+    returns)
