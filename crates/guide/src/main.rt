@@ -2,10 +2,12 @@
 // index and schedules. What books say is in guide_books.
 mod amounts;
 mod indexes;
+mod passes;
 mod schedules;
 
 fn main() {
     amounts::all();
     indexes::all();
     schedules::all();
+    passes::all();
 }

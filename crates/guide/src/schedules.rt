@@ -36,7 +36,7 @@ fn show_row(row: &[i32; 48], places: usize) {
 }
 
 // The rows' first prices, weekdays and then weekends; beside a refusal they are zeros.
-fn show(answer: Answer, places: usize) {
+pub fn show(answer: Answer, places: usize) {
     let making = answer.making;
     let weekday = answer.weekday;
     let weekend = answer.weekend;
