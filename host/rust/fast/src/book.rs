@@ -250,7 +250,7 @@ fn threshold_valid(threshold: i64) -> bool {
 }
 
 /// "cap 1..10,000,000; floor −10,000,000..−1"
-fn limits_valid(cap: i32, floor: i32) -> bool {
+pub(crate) fn limits_valid(cap: i32, floor: i32) -> bool {
     (1..=MOST_PRICE).contains(&cap) && (-MOST_PRICE..=-1).contains(&floor)
 }
 

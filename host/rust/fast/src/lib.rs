@@ -1,6 +1,6 @@
 //! Document 01's book by hand, for speed: the baseline that the proved functions are measured against. Running sums,
 //! lent slices, no allocation; rule 10 and every other refusal at every call, as there. Document 02's interval records and
-//! intervals left beside it. Quotations are document 01's unless a file says otherwise.
+//! intervals left beside it, and the schedule maker. Quotations are document 01's unless a file says otherwise.
 
 #![no_std]
 #![forbid(unsafe_code)]
@@ -11,9 +11,11 @@ pub mod entry;
 pub mod image;
 pub mod interval;
 mod left;
+pub mod maker;
 mod publishing;
 mod replay;
 
 pub use book::{Book, Opening, Refusal, Report};
 pub use entry::Entry;
+pub use maker::schedule;
 pub use replay::replay;
