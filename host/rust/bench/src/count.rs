@@ -1,15 +1,20 @@
 //! Calls to be counted by instructions rather than timed: `bench count proved|fast` and, where it is not the real market's free
-//! entry, the words `small`, `administered`, `report`, `store`, `load`, `question`, or `read`, `shuffled` and `write` of interval
-//! records. Under callgrind's `--toggle-collect='*count::counted*'` the calls themselves are counted, on a book whose window is full.
+//! entry, the words `small`, `administered`, `report`, `store`, `load`, `question`, `schedule`, or `read`, `shuffled` and `write` of
+//! interval records. Under callgrind's `--toggle-collect='*count::counted*'` the calls themselves are counted, on a book whose window
+//! is full.
 
 use crate::intervals::{self, Day, Recorded, Room};
 use crate::lists::{Market, Trade, Trading};
+use crate::schedules::{Maker, Weeks};
 use crate::typed::{Host, Typed, CALLS};
 
 use std::hint::black_box;
 
 /// A question for the intervals left; of a free book none of W is the answer.
 const QUESTION: &str = "question";
+
+/// A making of a schedule, of the market's half-hours; no book is asked.
+const SCHEDULE: &str = "schedule";
 
 /// How many calls are counted.
 const TIMES: usize = 1_000;
@@ -31,7 +36,7 @@ pub fn run(real: &Market, small: &Market, words: &[&str]) -> Option<()> {
     };
     for &word in words {
         let records = intervals::CALLS.map(|(name, _)| name);
-        let mut known = CALLS.into_iter().chain([QUESTION]).chain(records);
+        let mut known = CALLS.into_iter().chain([QUESTION, SCHEDULE]).chain(records);
         match word {
             "small" => counting.market = *small,
             "administered" => counting.trade = Trade::Administered,
@@ -53,7 +58,10 @@ pub fn run(real: &Market, small: &Market, words: &[&str]) -> Option<()> {
 }
 
 impl Counting {
-    fn play<B: Typed + Recorded>(&self) {
+    fn play<B: Typed + Recorded + Maker>(&self) {
+        if self.call == SCHEDULE {
+            return counted_schedules::<B>(&Weeks::new(self.market.halves));
+        }
         let mut records = intervals::CALLS.into_iter();
         if let Some((_, call)) = records.find(|(name, _)| *name == self.call) {
             let day = Day::new(self.market.regions, self.market.services);
@@ -87,6 +95,11 @@ fn counted_records<B: Recorded>(book: &B, day: &Day, room: &mut Room, call: inte
     for turn in 0..TIMES {
         black_box(room.call(book, day, call, turn));
     }
+}
+
+#[inline(never)]
+fn counted_schedules<M: Maker>(weeks: &Weeks) {
+    repeated(|| M::schedule(black_box(weeks)));
 }
 
 fn repeated<A>(mut call: impl FnMut() -> A) {

@@ -1,13 +1,15 @@
 //! Measures the proved functions beside the hand-written ones: the typed calls over the same slices, interval records, questions
-//! for the intervals left, then the replay on the same bytes, entries, restarts, and whether an entry's cost grows with the window
-//! or with the history. The one argument is the number of rounds; `intervals` leaves all but the interval records out, `questions`
-//! all but the questions, and `count ..` makes calls to be counted by instructions. docs/PERFORMANCE.md says how to read the tables.
+//! for the intervals left, the schedule maker, then the replay on the same bytes, entries, restarts, and whether an entry's cost
+//! grows with the window or with the history. The one argument is the number of rounds; `intervals` leaves all but the interval
+//! records out, `questions` all but the questions, `schedules` all but the schedule maker, and `count ..` makes calls to be counted
+//! by instructions. docs/PERFORMANCE.md says how to read the tables.
 
 mod clock;
 mod count;
 mod intervals;
 mod lists;
 mod questions;
+mod schedules;
 mod tables;
 mod timing;
 mod typed;
@@ -51,13 +53,15 @@ fn main() {
         ["intervals", rounds] => some_rounds(rounds, interval_records),
         ["questions"] => some_rounds("", intervals_left),
         ["questions", rounds] => some_rounds(rounds, intervals_left),
+        ["schedules"] => some_rounds("", schedule_maker),
+        ["schedules", rounds] => some_rounds(rounds, schedule_maker),
         [] => some_rounds("", all_tables),
         [rounds] => some_rounds(rounds, all_tables),
         _ => None,
     };
     if done.is_none() {
-        eprintln!("bench [intervals|questions] [ROUNDS]");
-        eprintln!("bench count proved|fast [small] [administered] [report|store|load|question|read|shuffled|write]");
+        eprintln!("bench [intervals|questions|schedules] [ROUNDS]");
+        eprintln!("bench count proved|fast [small] [administered] [report|store|load|question|schedule|read|shuffled|write]");
         std::process::exit(2);
     }
 }
@@ -77,6 +81,7 @@ fn all_tables(rounds: usize) {
     typed_calls(rounds);
     interval_records(rounds);
     intervals_left(rounds);
+    schedule_maker(rounds);
     steady(rounds);
     history(rounds);
     restarts(rounds);
@@ -146,6 +151,16 @@ fn intervals_left(rounds: usize) {
     for (market, costs) in &rows {
         let step = questions::step_over_store(market, costs);
         tables::two_row(&market.to_string(), &step);
+    }
+}
+
+/// A market's schedule made from four weeks of its prices.
+fn schedule_maker(rounds: usize) {
+    tables::head("schedule maker, one market");
+    for halves in schedules::HALVES {
+        let weeks = schedules::Weeks::new(halves);
+        let name = format!("H {halves}, {} prices", tables::grouped(weeks.prices()));
+        tables::row(&name, &weeks.measure(rounds));
     }
 }
 
