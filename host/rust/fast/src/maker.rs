@@ -1,6 +1,6 @@
 //! The schedule maker in one pass over the four weeks: running totals, and how many prices they are of.
 
-use crate::book::{all_within, limits_valid, lowest, unless, Refusal};
+use crate::book::{all_within, limits_valid, lowest, unless, Refusal, MOST_PRICE};
 
 /// "28 days", and the intervals of a half-hour.
 const DAYS: usize = 28;
@@ -62,21 +62,22 @@ impl Running {
         Ok(running)
     }
 
-    /// A day joins its kind. Answers whether all its prices are in range; where they are, six make no more than 60,000,000, and where
-    /// they aren't, the totals are no longer looked at.
+    /// A day joins its kind. Answers whether all its prices are in range: one of two differences of a price that isn't is below 0. Six
+    /// that are make no more than 60,000,000; where one isn't, the totals are no longer looked at.
     #[inline]
     fn add(&mut self, least: i32, prices: &[i32], kind: usize) -> bool {
         let (halves, _) = prices.as_chunks::<HALF>();
-        let mut within = true;
+        let mut signs = 0;
         for (total, six) in self.totals[kind].iter_mut().zip(halves) {
-            within &= all_within(least, six.iter().copied());
-            let sum = six
-                .iter()
-                .fold(0, |sum: i32, &price| sum.wrapping_add(price));
+            let mut sum = 0i32;
+            for &price in six {
+                signs |= price.wrapping_sub(least) | MOST_PRICE.wrapping_sub(price);
+                sum = sum.wrapping_add(price);
+            }
             *total += i64::from(sum);
         }
         self.counts[kind] += HALF as u32;
-        within
+        signs >= 0
     }
 
     /// "each is the mean of all prices of that half-hour and kind, rounded half away from zero, then held as in step 1"
