@@ -3,30 +3,31 @@
 
 use compare::lent::Lent;
 use compare::{rounds, say};
+use generator::makings::{self, Making};
 use generator::Random;
 use guxhamole::raw;
 use independent::amount::amount_text;
-use independent::maker::{make, Making, Rows};
+use independent::maker::{make, Rows};
 use std::collections::BTreeMap;
 
-/// The maker both ways: the number that both answer. The rows of a refused answer are zeros.
-fn same_schedule(making: &Making) -> u32 {
-    let Making { cap, floor, .. } = *making;
-    let halves = making.halves as u8;
-    let (prices, kinds) = (Lent::of(making.prices), Lent::of(making.kinds));
-    let made = guxhamole::schedule(
+/// The rows, or a refusal's number and place.
+type Made = Result<Rows, (u32, usize)>;
+
+/// The maker both ways: what both answer. The rows of a refused answer are zeros.
+fn same_schedule(making: &Making) -> Made {
+    let &Making {
         halves,
         cap,
         floor,
-        making.energy,
-        prices.slice(),
-        kinds.slice(),
-    );
+        energy,
+        ..
+    } = making;
+    let (prices, kinds) = (Lent::of(&making.prices), Lent::of(&making.kinds));
+    let made = guxhamole::schedule(halves, cap, floor, energy, prices.slice(), kinds.slice());
     let made = made.map(|schedule| [schedule.weekday, schedule.weekend]);
     let made = made.map_err(|refusal| (refusal.number(), refusal.place().unwrap_or(0)));
-    let expected = make(making).map_err(|refusal| (refusal.number, refusal.place as usize));
+    let expected = make(&making.lent()).map_err(|refusal| (refusal.number, refusal.place as usize));
     assert_eq!(made, expected, "{making:?}");
-    assert!(prices.holds(making.prices) && kinds.holds(making.kinds));
     let (number, place) = expected.err().unwrap_or_default();
     let [weekday, weekend]: Rows = expected.unwrap_or([[0; 48]; 2]);
     let rows = raw::Rows {
@@ -36,97 +37,117 @@ fn same_schedule(making: &Making) -> u32 {
         weekend,
     };
     // "0 is a service, anything else energy"
-    let energies: &[u8] = if making.energy {
-        &[1, 2, 128, 255]
-    } else {
-        &[0]
-    };
+    let energies: &[u8] = if energy { &[1, 2, 128, 255] } else { &[0] };
     for &energy in energies {
         let again = raw::schedule(halves, (cap, floor), energy, prices.slice(), kinds.slice());
         assert_eq!(again, rows, "energy {energy}: {making:?}");
     }
-    number
+    assert!(prices.holds(&making.prices) && kinds.holds(&making.kinds));
+    made
 }
 
-/// Prices of a market: close together, so that means end in halves of a cent, or anywhere up to the bounds.
-fn maker_prices(random: &mut Random, length: usize, energy: bool) -> Vec<i32> {
-    let most = 10_000_000;
-    let about = random.between(-70_000, 70_000);
-    let width = random.pick(&[0, 1, 1, 2, 60_000]);
-    let wild = random.chance(20);
-    let price = |_| {
-        let price = match wild {
-            true => random.between(-most, most),
-            false => about + random.between(0, width),
-        };
-        if energy {
-            price as i32
-        } else {
-            price.abs() as i32
-        }
-    };
-    (0..length).map(price).collect()
-}
+/// How often calls were met, by what they are.
+type Met = BTreeMap<String, u64>;
 
-/// One or two things wrong, so that the order of refusals shows.
-fn spoil(random: &mut Random, making: &mut Making, prices: &mut Vec<i32>, kinds: &mut Vec<u8>) {
-    for _ in 0..random.between(1, 2) {
-        match random.below(6) {
-            0 => making.halves = random.pick(&[0, 49, 255]),
-            1 => prices.truncate(prices.len() - 1),
-            2 => kinds.push(0),
-            3 => {
-                let day = random.below(28);
-                kinds[day] = random.pick(&[2, 255]);
-            }
-            4 => (making.cap, making.floor) = random.pick(&[(0, -1), (1, 0), (10_000_001, -1)]),
-            _ => {
-                let place = random.below(prices.len());
-                prices[place] = random.pick(&[10_000_001, -10_000_001, -1, i32::MIN, i32::MAX]);
-            }
+/// Counts a call under its H, under its number, and where a price is out of range, under where the first one stands.
+fn count(met: &mut Met, halves: u8, making: &Making, number: u32) {
+    let mut names = vec![format!("H {halves}: {number}"), number.to_string()];
+    let bad = |&price: &i32| making.bad(price);
+    if let Some(first) = making.prices.iter().position(bad) {
+        names.push(format!("{number}, a price out of range"));
+        if number == 16 {
+            names.extend(of_first(making, first));
         }
+    }
+    for name in names {
+        *met.entry(name).or_default() += 1;
     }
 }
 
+/// What the first price out of range is and where it stands.
+fn of_first(making: &Making, first: usize) -> Vec<String> {
+    let day = 6 * usize::from(making.halves);
+    let mut names = vec![format!("16, kind {}", making.kinds[first / day])];
+    let price = making.prices[first];
+    let mut later = making.prices[first + 1..].iter();
+    let alike = making.prices.iter().all(|&other| other == price);
+    for (name, holds) in [
+        ("16, a half-hour's first", first % 6 == 0),
+        ("16, a half-hour's last", first % 6 == 5),
+        ("16, a day's first", first % day == 0),
+        ("16, a day's last", first % day == day - 1),
+        (
+            "16, others behind it",
+            later.any(|&price| making.bad(price)),
+        ),
+        ("16, all the lowest", alike && price == i32::MIN),
+        ("16, all the highest", alike && price == i32::MAX),
+    ] {
+        if holds {
+            names.push(name.to_string());
+        }
+    }
+    names
+}
+
+/// Every H in turn, and as many calls of small ones, for which the independent maker takes less time.
 #[test]
 fn schedules() {
-    let mut met = BTreeMap::new();
+    let (mut met, mut calls) = (Met::new(), 0);
     for round in 0..rounds() {
         let mut random = Random::new(0x2B_0000 + round);
-        for turn in 0..4_000 {
-            let halves = match turn % 100 {
-                0 => random.pick(&[47, 48]),
-                _ => random.between(1, 4) as u32,
+        for turn in 0..12_000 {
+            let halves = match turn % 2 {
+                0 => (turn / 2 % 48 + 1) as u8,
+                _ => random.between(1, 8) as u8,
             };
-            let energy = random.chance(50);
-            let mut prices = maker_prices(&mut random, 168 * halves as usize, energy);
-            let share = random.pick(&[2, 28, 72, 100]);
-            let mut kinds: Vec<u8> = (0..28).map(|_| random.chance(share).into()).collect();
-            let mut making = Making {
-                halves,
-                cap: random.pick(&[60_000, 1, 7, 10_000_000]),
-                floor: random.pick(&[-60_000, -1, -7, -10_000_000]),
-                energy,
-                prices: &[],
-                kinds: &[],
-            };
-            if random.chance(40) {
-                spoil(&mut random, &mut making, &mut prices, &mut kinds);
-            }
-            let (prices, kinds) = (&prices[..], &kinds[..]);
-            let making = Making {
-                prices,
-                kinds,
-                ..making
-            };
-            *met.entry(same_schedule(&making)).or_insert(0) += 1;
+            let making = makings::making(&mut random, halves);
+            let refused = same_schedule(&making).err();
+            let number = refused.map_or(0, |(number, _)| number);
+            count(&mut met, halves, &making, number);
+            calls += 1;
         }
     }
-    say(&format!("schedule maker: answers {met:?}"));
-    for number in [0, 16, 19, 31, 32] {
-        assert!(met[&number] >= 50, "{number} met too seldom");
+    let often = |name: &str| met.get(name).copied().unwrap_or(0);
+    for halves in 1..=48 {
+        for (number, least) in [(0, 40), (16, 5), (31, 5), (32, 5), (19, 1)] {
+            let name = format!("H {halves}: {number}");
+            assert!(often(&name) >= least, "{name} met too seldom");
+        }
+    }
+    let others: Vec<_> = met
+        .iter()
+        .filter(|(name, _)| !name.starts_with('H'))
+        .collect();
+    say(&format!(
+        "schedule maker: {calls} calls, every H; answers {others:?}"
+    ));
+    assert!(calls >= 10_000);
+    for name in NAMES {
+        assert!(often(name) >= 50, "{name} met too seldom");
     }
 }
+
+/// What must be met often, beside every H.
+const NAMES: [&str; 17] = [
+    "0",
+    "16",
+    "19",
+    "31",
+    "32",
+    "19, a price out of range",
+    "31, a price out of range",
+    "32, a price out of range",
+    "16, kind 0",
+    "16, kind 1",
+    "16, a half-hour's first",
+    "16, a half-hour's last",
+    "16, a day's first",
+    "16, a day's last",
+    "16, others behind it",
+    "16, all the lowest",
+    "16, all the highest",
+];
 
 /// "Means of 2.5 and −2.5 cents: 3, −3."
 #[test]

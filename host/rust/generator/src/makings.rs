@@ -138,9 +138,9 @@ fn lengths(random: &mut Random, making: &mut Making) {
 /// Prices out of range: one to three about the ends of half-hours and days, or at any places, or all of them.
 fn bad_prices(random: &mut Random, making: &mut Making) {
     let beyond = [MOST + 1, -MOST - 1, i32::MIN, i32::MAX];
-    if random.chance(10) {
+    if random.chance(15) {
         let price = random.pick(&beyond);
-        making.prices.fill(price);
+        return making.prices.fill(price);
     }
     let ends = random.chance(70);
     for _ in 0..random.between(1, 3) {
