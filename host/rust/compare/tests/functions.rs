@@ -1,5 +1,5 @@
-//! The schedule maker and the amount text through the crate `guxhamole`, against the independent ones. The image check and
-//! the index stand in `compiled`.
+//! The schedule maker and the amount text through the crate `guxhamole`, against the independent ones, and schedules worked by hand.
+//! The image check and the index stand in `compiled`.
 
 use compare::lent::Lent;
 use compare::{rounds, say};
@@ -165,6 +165,111 @@ fn worked_schedule() {
     assert_eq!((made.weekday[0], made.weekend[0]), (-3, -3));
     let refused = guxhamole::schedule(1, 60_000, -60_000, false, &below, &kinds);
     assert_eq!(refused, Err(guxhamole::Refusal::Price(0)));
+}
+
+/// A worked case: energy, within 60,000 cents.
+fn energy(halves: u8, prices: &[i32], kinds: &[u8]) -> Making {
+    Making {
+        halves,
+        cap: 60_000,
+        floor: -60_000,
+        energy: true,
+        prices: prices.to_vec(),
+        kinds: kinds.to_vec(),
+    }
+}
+
+/// All days of kind 0 but one.
+fn one_weekend(day: usize) -> [u8; 28] {
+    let mut kinds = [0; 28];
+    kinds[day] = 1;
+    kinds
+}
+
+/// No prices but these, at their places, in days of one half-hour.
+fn only(prices: &[(usize, i32)]) -> [i32; 168] {
+    let mut all = [0; 168];
+    prices.iter().for_each(|&(place, price)| all[place] = price);
+    all
+}
+
+/// The rows of a maker's answer, as far as this H, and that zeros stand behind them.
+fn begins(made: Made, halves: usize) -> [Vec<i32>; 2] {
+    made.expect("a schedule").map(|row| {
+        let (begin, rest) = row.split_at(halves);
+        assert!(rest.iter().all(|&price| price == 0));
+        begin.to_vec()
+    })
+}
+
+/// Means of 1,015.5 and 2,016.5 and, in the second half-hour, a hundred more; 2.5, −2.5, and 15 / 162, which is nearest to 0; and the
+/// highest prices, within the highest cap.
+#[test]
+fn worked_means() {
+    let kinds: [u8; 28] = std::array::from_fn(|day| (day % 2) as u8);
+    let price = |place: usize| {
+        let (day, half, interval) = (place / 12, place / 6 % 2, place % 6);
+        (1_000 * (day % 2 + 1) + 100 * half + interval + day) as i32
+    };
+    let prices: Vec<i32> = (0..336).map(price).collect();
+    let made = begins(same_schedule(&energy(2, &prices, &kinds)), 2);
+    assert_eq!(made, [[1_016, 1_116], [2_017, 2_117]]);
+    let six = [2, 3, 2, 3, 2, 3];
+    let mut prices = [0; 168];
+    prices[..6].copy_from_slice(&six);
+    prices[162..].copy_from_slice(&six);
+    let made = begins(same_schedule(&energy(1, &prices, &one_weekend(27))), 1);
+    assert_eq!(made, [[0], [3]]);
+    let mut prices = [0; 168];
+    prices[..6].copy_from_slice(&six.map(|price| -price));
+    let made = begins(same_schedule(&energy(1, &prices, &one_weekend(0))), 1);
+    assert_eq!(made, [[0], [-3]]);
+    for halves in [1, 48] {
+        let prices = vec![10_000_000; 168 * halves];
+        let making = Making {
+            cap: 10_000_000,
+            floor: -1,
+            ..energy(halves as u8, &prices, &kinds)
+        };
+        let made = begins(same_schedule(&making), halves);
+        let full = vec![10_000_000; halves];
+        assert_eq!(made, [full.clone(), full]);
+    }
+}
+
+/// 16 at the first place of the slice, whatever the kind of its day; a price below 0 is a service's alone.
+#[test]
+fn worked_bad_prices() {
+    let (kinds, beyond) = (one_weekend(1), 10_000_001);
+    for (bad, place) in [
+        (&[(7, beyond), (3, -beyond)][..], 3),
+        (&[(167, beyond)], 167),
+        (&[(5, beyond), (6, beyond)], 5),
+        (&[(6, beyond), (12, beyond)], 6),
+    ] {
+        for kinds in [kinds, kinds.map(|kind| 1 - kind)] {
+            let made = same_schedule(&energy(1, &only(bad), &kinds));
+            assert_eq!(made, Err((16, place)));
+        }
+    }
+    let lowest = energy(1, &[-2_147_483_648; 168], &kinds);
+    assert_eq!(same_schedule(&lowest), Err((16, 0)));
+    let mut below = energy(1, &only(&[(100, -1)]), &kinds);
+    assert_eq!(begins(same_schedule(&below), 1), [[0], [0]]);
+    below.energy = false;
+    assert_eq!(same_schedule(&below), Err((16, 100)));
+}
+
+/// 31, 32 and 19 come before 16.
+#[test]
+fn worked_order() {
+    let (bad, kinds) = ([10_000_001; 168 * 49], one_weekend(1));
+    let one_kind = energy(1, &bad[..168], &[0; 28]);
+    assert_eq!(same_schedule(&one_kind), Err((32, 0)));
+    let mut no_cap = energy(1, &bad[..168], &kinds);
+    no_cap.cap = 0;
+    assert_eq!(same_schedule(&no_cap), Err((19, 0)));
+    assert_eq!(same_schedule(&energy(49, &bad, &kinds)), Err((31, 0)));
 }
 
 /// An amount into a buffer of every length: the text, or 33; the rest of the buffer stays.
