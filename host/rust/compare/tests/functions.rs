@@ -72,9 +72,9 @@ fn of_first(making: &Making, first: usize) -> Vec<String> {
     let mut later = making.prices[first + 1..].iter();
     let alike = making.prices.iter().all(|&other| other == price);
     for (name, holds) in [
-        ("16, a half-hour's first", first % 6 == 0),
+        ("16, a half-hour's first", first.is_multiple_of(6)),
         ("16, a half-hour's last", first % 6 == 5),
-        ("16, a day's first", first % day == 0),
+        ("16, a day's first", first.is_multiple_of(day)),
         ("16, a day's last", first % day == day - 1),
         (
             "16, others behind it",
