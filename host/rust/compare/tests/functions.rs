@@ -229,7 +229,7 @@ fn worked_means() {
         let making = Making {
             cap: 10_000_000,
             floor: -1,
-            ..energy(halves as u8, &prices, &kinds)
+            ..energy(halves as u8, &prices, &one_weekend(27))
         };
         let made = begins(same_schedule(&making), halves);
         let full = vec![10_000_000; halves];
