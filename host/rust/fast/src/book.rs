@@ -256,7 +256,7 @@ pub(crate) fn limits_valid(cap: i32, floor: i32) -> bool {
 
 /// The lowest allowed price of a market: "energy beyond ±10,000,000 or service outside 0..10,000,000".
 #[inline]
-pub(crate) fn lowest(market: usize) -> i32 {
+pub(crate) const fn lowest(market: usize) -> i32 {
     if market == 0 {
         -MOST_PRICE
     } else {

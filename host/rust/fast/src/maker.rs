@@ -1,6 +1,8 @@
-//! The schedule maker in one pass over the four weeks: running totals, and how many prices they are of.
+//! The schedule maker in one pass over the four weeks: a running total and count for each half-hour and kind. It does the work that
+//! the proved one promises, no less: every price is read once, whatever is found, and after each day the totals and counts are those
+//! of the days so far, whatever the prices.
 
-use crate::book::{all_within, limits_valid, lowest, unless, Refusal, MOST_PRICE};
+use crate::book::{limits_valid, lowest, unless, Refusal, MOST_PRICE};
 
 /// "28 days", and the intervals of a half-hour.
 const DAYS: usize = 28;
@@ -27,69 +29,95 @@ pub fn schedule(
     unless(kinds.iter().all(|&kind| kind <= 1), 32)?;
     unless(kinds.contains(&0) && kinds.contains(&1), 32)?;
     unless(limits_valid(cap, floor), 19)?;
-    let (least, low) = if energy {
-        (lowest(0), floor)
-    } else {
-        (lowest(1), 0)
-    };
-    let running = Running::of(HALF * halves, least, prices, kinds)?;
-    Ok(running.rows(halves, low, cap))
+    let low = if energy { floor } else { 0 };
+    let mut running = Running::NONE;
+    running.pass(halves, energy, prices, kinds);
+    match running.bad {
+        Some(place) => Err(Refusal { number: 16, place }),
+        None => Ok(running.rows(halves, low, cap)),
+    }
 }
 
-/// What the pass keeps: the total of each half-hour and kind, and how many prices a total of the kind is of, which is the same for
-/// all half-hours.
-struct Running {
-    totals: [[i64; HALVES]; 2],
-    counts: [u32; 2],
+/// What the pass keeps. Public so that a test can look at it after any number of days.
+#[derive(Clone, Debug, PartialEq, Eq)]
+pub struct Running {
+    /// Of each kind and half-hour; 168 prices of 32 bits are far from the ends of 64.
+    pub totals: [[i64; HALVES]; 2],
+    /// How many prices each total is of.
+    pub counts: [[u32; HALVES]; 2],
+    /// The place of the first price out of range.
+    pub bad: Option<u32>,
 }
 
 impl Running {
-    /// The pass, day by day. A day's prices are tested on the way and its first bad one is only then looked for: the days before it
-    /// have none.
-    fn of(day: usize, least: i32, prices: &[i32], kinds: &[u8]) -> Result<Running, Refusal> {
-        let mut running = Running {
-            totals: [[0; HALVES]; 2],
-            counts: [0; 2],
-        };
-        for (number, (prices, &kind)) in prices.chunks_exact(day).zip(kinds).enumerate() {
-            if !running.add(least, prices, kind.into()) {
-                let one = |&price: &i32| all_within(least, [price].into_iter());
-                let first = prices.iter().position(|price| !one(price));
-                let place = (number * day + first.unwrap_or(0)) as u32;
-                return Err(Refusal { number: 16, place });
-            }
+    /// Before the first day.
+    pub const NONE: Running = Running {
+        totals: [[0; HALVES]; 2],
+        counts: [[0; HALVES]; 2],
+        bad: None,
+    };
+
+    /// The pass, from `NONE`, over whole days of 1 to 48 half-hours and their kinds, 0 or 1. The market is settled first: tests against
+    /// constants take a fifth less time than against variables.
+    pub fn pass(&mut self, halves: usize, energy: bool, prices: &[i32], kinds: &[u8]) {
+        if energy {
+            self.days::<{ lowest(0) }>(HALF * halves, prices, kinds);
+        } else {
+            self.days::<{ lowest(1) }>(HALF * halves, prices, kinds);
         }
-        Ok(running)
     }
 
-    /// A day joins its kind. Answers whether all its prices are in range: one of two differences of a price that isn't is below 0. Six
-    /// that are make no more than 60,000,000; where one isn't, the totals are no longer looked at.
-    #[inline]
-    fn add(&mut self, least: i32, prices: &[i32], kind: usize) -> bool {
-        let (halves, _) = prices.as_chunks::<HALF>();
-        let mut signs = 0;
-        for (total, six) in self.totals[kind].iter_mut().zip(halves) {
-            let mut sum = 0i32;
-            for &price in six {
-                signs |= price.wrapping_sub(least) | MOST_PRICE.wrapping_sub(price);
-                sum = sum.wrapping_add(price);
-            }
-            *total += i64::from(sum);
+    /// Day by day, to the end.
+    fn days<const LEAST: i32>(&mut self, day: usize, prices: &[i32], kinds: &[u8]) {
+        for (number, (prices, &kind)) in prices.chunks_exact(day).zip(kinds).enumerate() {
+            self.add::<LEAST>(number * day, prices, kind.into());
         }
-        self.counts[kind] += HALF as u32;
-        signs >= 0
+    }
+
+    /// A day, which begins at `place`, joins its kind. The six prices of a half-hour are copied out of the slice and tested; six in
+    /// range make no more than 60,000,000, so that 32 bits hold their sum. Comparing each with constants is the fastest form of those
+    /// tried, as four are then compared at once; signs or extremes of the six are slower, also for two half-hours together, and sums
+    /// of 64 bits for all take nearly twice the time.
+    #[inline]
+    fn add<const LEAST: i32>(&mut self, place: usize, prices: &[i32], kind: usize) {
+        let (halves, _) = prices.as_chunks::<HALF>();
+        let cells = self.totals[kind].iter_mut().zip(&mut self.counts[kind]);
+        for (half, ((total, count), &six)) in cells.zip(halves).enumerate() {
+            *total += if six.iter().all(|&price| in_range(LEAST, price)) {
+                i64::from(six.into_iter().sum::<i32>())
+            } else {
+                note(&mut self.bad, LEAST, place + HALF * half, six)
+            };
+            *count += HALF as u32;
+        }
     }
 
     /// "each is the mean of all prices of that half-hour and kind, rounded half away from zero, then held as in step 1"
     fn rows(&self, halves: usize, low: i32, cap: i32) -> Rows {
         let mut rows = [[0; HALVES]; 2];
-        for ((row, totals), &count) in rows.iter_mut().zip(&self.totals).zip(&self.counts) {
-            for (cell, &total) in row.iter_mut().zip(totals).take(halves) {
+        for ((row, totals), counts) in rows.iter_mut().zip(&self.totals).zip(&self.counts) {
+            let sums = totals.iter().zip(counts).take(halves);
+            for (cell, (&total, &count)) in row.iter_mut().zip(sums) {
                 *cell = mean(total, count).clamp(low, cap);
             }
         }
         rows
     }
+}
+
+#[inline]
+fn in_range(least: i32, price: i32) -> bool {
+    (least..=MOST_PRICE).contains(&price)
+}
+
+/// Six prices from `place` on that are not all in range: the first bad one is noted, if none was before. Answers their sum, which may
+/// need 64 bits. Out of line, because the pass takes half as long again where it has this in its midst.
+#[cold]
+#[inline(never)]
+fn note(bad: &mut Option<u32>, least: i32, place: usize, six: [i32; HALF]) -> i64 {
+    let first = six.iter().position(|&price| !in_range(least, price));
+    *bad = bad.or(first.map(|first| (place + first) as u32));
+    six.into_iter().map(i64::from).sum()
 }
 
 /// A total over an even count, "rounded half away from zero". Prices in range have a mean in range.

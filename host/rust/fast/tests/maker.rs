@@ -1,8 +1,10 @@
-//! The fast schedule maker: cases worked by hand, each with its answer, and calls from a seed against `independent`.
+//! The fast schedule maker: cases worked by hand, each with its answer, calls from a seed against `independent`, and what its pass
+//! keeps after each day.
 
-use fast::maker::Rows;
+use fast::maker::{Rows, Running};
 use generator::{makings, Random};
 use independent::maker::make;
+use std::array::from_fn;
 use std::collections::BTreeMap;
 
 /// The limits of the worked cases.
@@ -44,7 +46,7 @@ fn one_weekend(day: usize) -> [u8; 28] {
 /// Means of 1,015.5 and 2,016.5, and a hundred more in the second half-hour.
 #[test]
 fn means() {
-    let kinds: [u8; 28] = std::array::from_fn(|day| (day % 2) as u8);
+    let kinds: [u8; 28] = from_fn(|day| (day % 2) as u8);
     let price = |place: usize| {
         let (day, half, interval) = (place / 12, place / 6 % 2, place % 6);
         (1_000 * (day % 2 + 1) + 100 * half + interval + day) as i32
@@ -131,5 +133,58 @@ fn generated() {
     }
     for number in [0, 16, 19, 31, 32] {
         assert!(met[&number] >= 50, "{number} met too seldom");
+    }
+}
+
+/// What the pass has to keep after these whole days: for each kind and half-hour its prices are looked up anew.
+fn so_far(halves: usize, energy: bool, prices: &[i32], kinds: &[u8]) -> Running {
+    let of_cell = |kind: usize, half: usize| -> Vec<i64> {
+        let within = |place: usize| usize::from(kinds[place / 6 / halves]) == kind;
+        let places = (0..prices.len()).filter(|place| place / 6 % halves == half);
+        let places = places.filter(|&place| within(place));
+        places.map(|place| prices[place].into()).collect()
+    };
+    let cells: [[Vec<i64>; 48]; 2] = from_fn(|kind| from_fn(|half| of_cell(kind, half)));
+    let lowest = if energy { -10_000_000 } else { 0 };
+    let bad = |&price: &i32| price < lowest || price > 10_000_000;
+    Running {
+        totals: from_fn(|kind| from_fn(|half| cells[kind][half].iter().sum())),
+        counts: from_fn(|kind| from_fn(|half| cells[kind][half].len() as u32)),
+        bad: prices.iter().position(bad).map(|place| place as u32),
+    }
+}
+
+/// Prices, so many of a hundred out of some market's range.
+fn any_prices(random: &mut Random, length: usize, percent: usize) -> Vec<i32> {
+    let price = |_| {
+        let (within, any) = (random.between(0, 10_000_000) as i32, random.word() as i32);
+        let beyond = random.pick(&[any, i32::MIN, i32::MAX, 10_000_001, -10_000_001, -1]);
+        if random.chance(percent) {
+            beyond
+        } else {
+            within
+        }
+    };
+    (0..length).map(price).collect()
+}
+
+/// After each day totals and counts are those of the days so far, whatever the prices: a bad one neither ends the pass nor spoils it.
+#[test]
+fn days_so_far() {
+    let mut random = Random::new(0x6100_0000);
+    for halves in [1, 2, 7, 48] {
+        let length = 168 * halves;
+        let mut weeks = vec![vec![i32::MIN; length], vec![i32::MAX; length]];
+        weeks.extend([0, 1, 50, 100].map(|percent| any_prices(&mut random, length, percent)));
+        for (number, prices) in weeks.iter().enumerate() {
+            let kinds: [u8; 28] = from_fn(|_| random.chance(30).into());
+            for days in 0..=28 {
+                let (prices, kinds) = (&prices[..6 * halves * days], &kinds[..days]);
+                let energy = (days + number) % 2 == 0;
+                let mut kept = Running::NONE;
+                kept.pass(halves, energy, prices, kinds);
+                assert_eq!(kept, so_far(halves, energy, prices, kinds));
+            }
+        }
     }
 }
