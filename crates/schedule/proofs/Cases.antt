@@ -4,7 +4,7 @@ use mathlib.Core.Bool.{true}
 use mathlib.Core.List.{List, [], _∷_, _++_}
 use Prim.Native.Nat.{ℕ, _+_, _*_, _/_, _%_}
 use lib.IntN.{ℤ, pos, negsuc}
-use lib.ListN.{length, getD, replicate}
+use lib.ListN.{getD, replicate}
 use Rattle.laws.specs.Lists.{run, tabulate, firstOf, total}
 use Rattle.laws.specs.Tables.{Row, sameNumbers, agree}
 use Rattle.pricing.specs.Rounding.{nearest, rounded}

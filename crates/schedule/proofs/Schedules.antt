@@ -1,12 +1,12 @@
 -- Laws of the schedule's definitions: of the days of a kind, of a half-hour's prices and of a row. Assumes nothing.
 use mathlib.Core.Path.{_≡_, refl, sym, ap, _∙_}
-use mathlib.Core.Bool.{Bool, true, false, not, _&&_, _||_}
+use mathlib.Core.Bool.{Bool, true, false, not, _&&_}
 use mathlib.Core.List.{List, [], _∷_, _++_}
 use mathlib.Core.Logic.{⊎-elim}
 use Prim.Native.Nat.{ℕ, zero, suc, _+_, _*_, _≤_, _<_}
 use native.Mathlib.Numerals.{add-one}
 use native.Mathlib.Omega.{arith}
-use borrow.Author.Tests.{eq-eqb, ne-eqb, eqb-true, eqb-false, lt-ltb, le-ltb, ltb-true, ltb-false, leb-true, not-false}
+use borrow.Author.Tests.{eq-eqb, eqb-true, eqb-false, lt-ltb, le-ltb, ltb-true, ltb-false, leb-true, not-false}
 use lib.Dec.{eqb, leb, ltb}
 use lib.IntN.{ℤ, pos, negsuc, natAbs, _+ℤ_}
 use lib.Signed.{leZ}
@@ -20,7 +20,6 @@ use Rattle.laws.proofs.Tests.{true-is, and-left, and-right, by-test, lt-or-ge}
 use Rattle.laws.proofs.Totals.{total-append, total-size}
 use Rattle.pricing.specs.Verdict.{accepted, refused, refusedAt}
 use Rattle.pricing.specs.Holding.{lowest, inRange, limitsOk}
-use Rattle.pricing.specs.Rounding.{rounded}
 use Rattle.schedule.specs.Schedule.{halfHour, pricesOf, eachKind, hasKind, sizesOk, kindsOk, firstBad, mean, scheduled, row, zeros, refusedBy, schedule}
 use Rattle.schedule.specs.Running.{totalsOf, countsOf}
 use Rattle.schedule.specs.Working.{Days, Means, heldMean, rowBy}

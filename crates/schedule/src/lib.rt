@@ -163,13 +163,8 @@ pub fn schedule(
     if bad < prices.len() {
         return refused(Making::Price(bad));
     }
-    let all = rows(
-        halves as usize,
-        lowest(market, floor),
-        cap,
-        &totals,
-        &counts,
-    );
+    let low = lowest(market, floor);
+    let all = rows(halves as usize, low, cap, &totals, &counts);
     Answer {
         making: Making::Made,
         weekday: all[0],

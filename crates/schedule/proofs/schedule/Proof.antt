@@ -10,9 +10,8 @@ use mir.Val.{SFits}
 use Rattle.laws.proofs.Integers.{signed}
 use Rattle.pricing.specs.Verdict.{refusedAt}
 use Rattle.pricing.specs.Holding.{lowest, limitsOk}
-use Rattle.schedule.specs.Schedule.{sizesOk, kindsOk, hasKind, firstBad, row, refusedBy}
-use Rattle.schedule.specs.Running.{totalsOf, countsOf}
-use Rattle.schedule.specs.Working.{Days, Means}
+use Rattle.schedule.specs.Schedule.{sizesOk, kindsOk, firstBad, row, refusedBy}
+use Rattle.schedule.specs.Working.{Days}
 use Rattle.schedule.proofs.Runs.{totals-none, counts-none, room-none}
 use Rattle.schedule.proofs.Schedules.{sizes, days, both-kinds, means, row-is, says-31, says-32, says-19, says-16, says-made}
 use borrow.Author.Needs.{needs}

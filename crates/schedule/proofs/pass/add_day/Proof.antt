@@ -10,8 +10,8 @@ use lib.ListN.{length, getD}
 use mir.Syntax.{w64}
 use mir.Val.{SFits, toZ, ofZ}
 use mir.Facts.{toZ-ofZ}
-use Rattle.laws.specs.Lists.{total, placesOf}
-use Rattle.laws.proofs.Integers.{signed, abs-add, abs-fits}
+use Rattle.laws.specs.Lists.{total}
+use Rattle.laws.proofs.Integers.{abs-add, abs-fits}
 use Rattle.pricing.specs.Holding.{isEnergy}
 use Rattle.schedule.specs.Schedule.{pricesOf, halfHour}
 use Rattle.schedule.specs.Running.{badIn}
