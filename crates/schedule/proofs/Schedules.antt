@@ -22,19 +22,19 @@ use Rattle.pricing.specs.Verdict.{accepted, refused, refusedAt}
 use Rattle.pricing.specs.Holding.{lowest, inRange, limitsOk}
 use Rattle.schedule.specs.Schedule.{halfHour, pricesOf, eachKind, hasKind, sizesOk, kindsOk, firstBad, mean, scheduled, row, zeros, refusedBy, schedule}
 use Rattle.schedule.specs.Running.{totalsOf, countsOf}
-use Rattle.schedule.specs.Working.{Days, Means, heldMean, rowBy}
+use Rattle.schedule.specs.Working.{Days, Small, allInRange, Means, heldMean, rowBy}
 use Rattle.schedule.proofs.Runs.{table-there}
 
 -- a total of numbers of at most 10,000,000 each
-abbrev Small : List ℤ → Type 0
-Small l = natAbs (total l) ≤ length l * 10000000
+abbrev Bounded : List ℤ → Type 0
+Bounded l = natAbs (total l) ≤ length l * 10000000
 
-small-none : Small []
+bounded-none : Bounded []
 unfolding total
-small-none = omega arith
+bounded-none = omega arith
 
-small-append : (l m : List ℤ) → Small l → Small m → Small (l ++ m)
-small-append l m p q = rw (total-append l m, length-append l m) (omega (arith, abs-add (total l) (total m)))
+bounded-append : (l m : List ℤ) → Bounded l → Bounded m → Bounded (l ++ m)
+bounded-append l m p q = rw (total-append l m, length-append l m) (omega (arith, abs-add (total l) (total m)))
 
 -- ---- the six prices of a half-hour
 pub six-are : (f : ℕ → ℤ) {p0 p1 p2 p3 p4 p5 : ℤ} → p0 ≡ f 0 → p1 ≡ f 1 → p2 ≡ f 2 → p3 ≡ f 3 → p4 ≡ f 4 → p5 ≡ f 5
@@ -46,8 +46,8 @@ module _ (H : ℕ) (prices : List ℤ) (d h : ℕ) where
   pub half-length : length (halfHour H prices d h) ≡ 6
   half-length = length-run (λ j. getD prices (d * (6 * H) + 6 * h + j) (pos 0)) 6 0
 
-  half-small : ((k : ℕ) → natAbs (getD prices k (pos 0)) ≤ 10000000) → Small (halfHour H prices d h)
-  half-small most =
+  half-bounded : ((k : ℕ) → natAbs (getD prices k (pos 0)) ≤ 10000000) → Bounded (halfHour H prices d h)
+  half-bounded most =
       total-size 10000000 (halfHour H prices d h)
       (λ k p. rw (getD-tabulate (λ j. getD prices (d * (6 * H) + 6 * h + j) (pos 0)) 6 k (pos 0) (omega (arith, half-length))) (most (d * (6 * H) + 6 * h + k)))
 
@@ -90,13 +90,13 @@ module _ (H : ℕ) (prices : List ℤ) (kinds : List ℕ) (kind h : ℕ) where
       (lt-or-ge d n))
 
   -- none is large, so their total is not
-  pub prices-small : ((k : ℕ) → natAbs (getD prices k (pos 0)) ≤ 10000000) → (n : ℕ) → Small (pricesOf H prices kinds kind h n)
+  pub prices-bounded : ((k : ℕ) → natAbs (getD prices k (pos 0)) ≤ 10000000) → (n : ℕ) → Bounded (pricesOf H prices kinds kind h n)
   unfolding pricesOf
-  prices-small most zero = small-none
-  prices-small most (suc n) =
-      small-append (pricesOf H prices kinds kind h n) (pick (eqb (getD kinds n 0) kind) (halfHour H prices n h) [])
-      (prices-small most n)
-      (by-test (eqb (getD kinds n 0) kind) (λ e. rw e (half-small H prices n h most)) (λ e. rw e small-none))
+  prices-bounded most zero = bounded-none
+  prices-bounded most (suc n) =
+      bounded-append (pricesOf H prices kinds kind h n) (pick (eqb (getD kinds n 0) kind) (halfHour H prices n h) [])
+      (prices-bounded most n)
+      (by-test (eqb (getD kinds n 0) kind) (λ e. rw e (half-bounded H prices n h most)) (λ e. rw e bounded-none))
 
 -- ---- a row that is filled from the front: f at the places below h, zeros from there up
 module _ (f : ℕ → ℤ) where
@@ -133,6 +133,10 @@ range-size : (energy : Bool) (z : ℤ) → inRange energy z ≡ true → natAbs 
 range-size energy (pos n) e = leb-true n 10000000 (and-right (leZ (lowest energy (negsuc 9999999)) (pos n)) (leb n 10000000) e)
 range-size true (negsuc n) e = omega (arith, leb-true n 9999999 (and-left (leb n 9999999) true e))
 range-size false (negsuc n) e = absurd (true-is e)
+
+-- six prices in range
+pub six-small : (energy : Bool) (six : List ℤ) → allInRange energy six ≡ true → Small six
+six-small energy six e j h = range-size energy (getD six j (pos 0)) (all-at 6 (λ j. inRange energy (getD six j (pos 0))) e j h)
 
 module _ (H : ℕ) (prices : List ℤ) (kinds : List ℕ) (e : sizesOk H prices kinds ≡ true) where
   pub sizes : ((1 ≤ H) × (H ≤ 48)) × ((length prices ≡ 28 * (6 * H)) × (length kinds ≡ 28))
@@ -186,7 +190,7 @@ module _ {H : ℕ} {prices : List ℤ} {kinds : List ℕ} (w : Days H prices kin
             let d = any-at 28 (λ d. eqb (getD kinds d 0) kind) has in
             rw (table-there total (pos 0) H prices kinds (λ _. 28) kind h one q p, table-there length 0 H prices kinds (λ _. 28) kind h one q p) (
               (prices-some H prices kinds kind h 28 (d .0) (d .1) (d .2), omega (arith, prices-most H prices kinds kind h 28)),
-              prices-small H prices kinds kind h (ranged energy prices none) 28,
+              prices-bounded H prices kinds kind h (ranged energy prices none) 28,
             );
       }
 

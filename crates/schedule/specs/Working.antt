@@ -22,6 +22,10 @@ pub record Days (H : ℕ) (prices : List ℤ) (kinds : List ℕ) : Type 0 where
 abbrev pub Room : ℕ → List ℤ → Type 0
 Room d totals = (k : ℕ) → natAbs (getD totals k (pos 0)) ≤ d * 12884901888
 
+-- six prices that are in some market's range
+abbrev pub Small : List ℤ → Type 0
+Small six = (j : ℕ) → j < 6 → natAbs (getD six j (pos 0)) ≤ 10000000
+
 -- whether the six prices of a half-hour are in range, and which is the first that is not, or 6
 abbrev pub allInRange : Bool → List ℤ → Bool
 allInRange energy six = allBelow 6 (λ j. inRange energy (getD six j (pos 0)))

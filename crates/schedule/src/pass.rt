@@ -10,7 +10,7 @@ ghost use Rattle.laws.specs.Lists.{total, placesOf};
 ghost use Rattle.pricing.specs.Holding.{isEnergy};
 ghost use Rattle.schedule.specs.Schedule.{firstBad};
 ghost use Rattle.schedule.specs.Running.{totalsOf, countsOf, badIn};
-ghost use Rattle.schedule.specs.Working.{Days, Room, allInRange, firstOut, badWith};
+ghost use Rattle.schedule.specs.Working.{Days, Room, Small, allInRange, firstOut, badWith};
 
 // The six prices of a half-hour, from a place on: each is read here, and nowhere else.
 fn half_hour(prices: &[i32], from: usize) -> [i32; 6]
@@ -39,7 +39,21 @@ fn sum_of(six: [i32; 6]) -> i64
     sum
 }
 
-fn all_in_range(market: usize, six: [i32; 6]) -> bool
+// The sum of six prices in range, which 32 bits hold.
+fn small_sum(six: [i32; 6]) -> i32
+    requires { ⌜ Small six ⌝ }
+    ensures { λ r. ⌜ r ≡ total six ⌝ }
+{
+    let mut sum: i32 = 0;
+    let mut j: usize = 0;
+    while j < 6 {
+        sum += six[j];
+        j += 1;
+    }
+    sum
+}
+
+fn six_in_range(market: usize, six: [i32; 6]) -> bool
     ensures { λ r. ⌜ r ≡ allInRange (isEnergy market) six ⌝ }
 {
     let mut j: usize = 0;
@@ -50,6 +64,17 @@ fn all_in_range(market: usize, six: [i32; 6]) -> bool
         j += 1;
     }
     true
+}
+
+// The same with the market settled first: prices are tested against constants, four at once.
+fn all_in_range(market: usize, six: [i32; 6]) -> bool
+    ensures { λ r. ⌜ r ≡ allInRange (isEnergy market) six ⌝ }
+{
+    if market == 0 {
+        six_in_range(0, six)
+    } else {
+        six_in_range(1, six)
+    }
 }
 
 // Which of the six is the first out of range, or 6.
@@ -74,15 +99,28 @@ fn first_of(bad: usize, from: usize, on: usize) -> usize
     if bad < from { bad } else { from + on }
 }
 
-// The first bad price with those of the half-hour from a place on; while there is none before it, `bad` is any later place.
-fn bad_with(market: usize, six: [i32; 6], bad: usize, from: usize) -> usize
+// What a half-hour brings: the sum of its prices, and the first bad price with them.
+struct Half {
+    sum: i64,
+    bad: usize,
+}
+
+// The half-hour from a place on; while there is no bad price before it, `bad` is any later place. Sums of 64 bits are for the rare case.
+fn half_of(market: usize, six: [i32; 6], bad: usize, from: usize) -> Half
     requires { ⌜ from + 6 ≤ 8064 ⌝ }
-    ensures { λ r. ⌜ r ≡ badWith (isEnergy market) six bad from ⌝ }
+    ensures { λ r. ⌜ (r .sum ≡ total six) × (natAbs (r .sum) ≤ 12884901888) ⌝ }
+    ensures { λ r. ⌜ r .bad ≡ badWith (isEnergy market) six bad from ⌝ }
 {
     if all_in_range(market, six) {
-        return bad;
+        return Half {
+            sum: small_sum(six) as i64,
+            bad,
+        };
     }
-    first_of(bad, from, first_bad(market, six))
+    Half {
+        sum: sum_of(six),
+        bad: first_of(bad, from, first_bad(market, six)),
+    }
 }
 
 // Day d of the four weeks. After it the totals and counts are those of the days so far, this one included, and so is the first bad price.
@@ -113,9 +151,10 @@ fn add_day(
     while h < halves {
         let from = first + 6 * h;
         let six = half_hour(prices, from);
-        bad = bad_with(market, six, bad, from);
+        let half = half_of(market, six, bad, from);
+        bad = half.bad;
         let k = row + h;
-        totals[k] = totals[k] + sum_of(six);
+        totals[k] = totals[k] + half.sum;
         counts[k] = counts[k] + 6;
         h += 1;
     }

@@ -92,8 +92,8 @@ add-from c = omega (arith, half-in c)
 half-hour-requires : tie.Need-half-hour-requires Inv-loop μ-loop
 half-hour-requires c κs = omega (arith, half-in c)
 
-bad-with-requires : tie.Need-bad-with-requires Inv-loop μ-loop
-bad-with-requires c κs = omega (arith, half-in (c .before))
+half-of-requires : tie.Need-half-of-requires Inv-loop μ-loop
+half-of-requires c κs = omega (arith, half-in (c .before))
 
 add-k : tie.Need-add-k Inv-loop μ-loop
 add-k c = omega (arith, place-in (c .before .before))
@@ -104,13 +104,10 @@ mul-totals c = omega (arith, place-in (c .before .before))
 element-copy-out-totals : tie.Need-element-copy-out-totals Inv-loop μ-loop
 element-copy-out-totals c = omega (arith, place-in (c .before .before))
 
-sum-of-requires : tie.Need-sum-of-requires Inv-loop μ-loop
-sum-of-requires c κs = search needs
-
 -- the total with the day's six prices, and its size
-module _ (c : tie.After-sum-of Inv-loop μ-loop) where
+module _ (c : tie.After-struct-told Inv-loop μ-loop) where
   abbrev turn : tie.In-loop Inv-loop μ-loop
-  turn = c .before .before .before .before
+  turn = c .before .before .before .before .before
 
   abbrev call : tie.Start Inv-loop μ-loop
   call = turn .before .before .before .before .before
@@ -144,42 +141,46 @@ module _ (c : tie.After-sum-of Inv-loop μ-loop) where
   old-size : natAbs old ≤ call .args .d * 12884901888
   old-size = rw (old-is, ← was-there) (call .pre .0 .2 (kind * 48 + half))
 
-  new-is : old +ℤ c .sum-of .result ≡ total (prices (call .args .d + 1))
+  -- what the half-hour brings
+  abbrev sum : ℤ
+  sum = c .before .before .before .half-of .result .sum
+
+  new-is : old +ℤ sum ≡ total (prices (call .args .d + 1))
   new-is =
       let a = call .args in
-      let six : c .sum-of .result ≡ total (halfHour (a .halves) (a .prices .now) (a .d) half) = c .sum-of .ensures .0 ∙ ap total (c .before .before .before .half-hour .ensures) in
+      let six : sum ≡ total (halfHour (a .halves) (a .prices .now) (a .d) half) = c .before .before .before .half-of .ensures .0 .0 ∙ ap total (c .before .before .before .before .half-hour .ensures) in
       ap₂ (λ (x y : ℤ). x +ℤ y) old-is six ∙ prices-taken (a .halves) (a .prices .now) (a .kinds .now) kind half (a .d) refl
 
-  new-size : natAbs (old +ℤ c .sum-of .result) ≤ (call .args .d + 1) * 12884901888
-  new-size = omega (arith, abs-add old (c .sum-of .result), old-size, c .sum-of .ensures .1)
+  new-size : natAbs (old +ℤ sum) ≤ (call .args .d + 1) * 12884901888
+  new-size = omega (arith, abs-add old sum, old-size, c .before .before .before .half-of .ensures .0 .1)
 
-  new-fits : SFits w64 (old +ℤ c .sum-of .result)
-  new-fits = abs-fits w64 (old +ℤ c .sum-of .result) (omega (arith, new-size, call .pre .0 .1))
+  new-fits : SFits w64 (old +ℤ sum)
+  new-fits = abs-fits w64 (old +ℤ sum) (omega (arith, new-size, call .pre .0 .1))
 
   -- as the machine adds
-  added : toZ w64 (ofZ w64 old) +ℤ toZ w64 (ofZ w64 (c .sum-of .result)) ≡ old +ℤ c .sum-of .result
+  added : toZ w64 (ofZ w64 old) +ℤ toZ w64 (ofZ w64 sum) ≡ old +ℤ sum
   added =
       let f : SFits w64 old = search needs in
-      let g : SFits w64 (c .sum-of .result) = search needs in
+      let g : SFits w64 sum = search needs in
       rw (toZ-ofZ f, toZ-ofZ g)
 
 add-totals : tie.Need-add-totals Inv-loop μ-loop
 add-totals c = rw (added c) (new-fits c)
 
 mul-t26 : tie.Need-mul-t26 Inv-loop μ-loop
-mul-t26 c = omega (arith, place-in (c .before .before .before .before))
+mul-t26 c = omega (arith, place-in (turn c))
 
 element-set-from-totals : tie.Need-element-set-from-totals Inv-loop μ-loop
-element-set-from-totals c = omega (arith, place-in (c .before .before .before .before))
+element-set-from-totals c = omega (arith, place-in (turn c))
 
 mul-counts : tie.Need-mul-counts Inv-loop μ-loop
-mul-counts c = omega (arith, place-in (c .before .before .before .before))
+mul-counts c = omega (arith, place-in (turn c))
 
 element-copy-out-counts : tie.Need-element-copy-out-counts Inv-loop μ-loop
-element-copy-out-counts c = omega (arith, place-in (c .before .before .before .before))
+element-copy-out-counts c = omega (arith, place-in (turn c))
 
 -- the count that stood there
-count-was : (c : tie.After-sum-of Inv-loop μ-loop) → getD (turn c .before .loop .counts) (kind c * 48 + half c) 0 ≡ length (prices c (call c .args .d))
+count-was : (c : tie.After-struct-told Inv-loop μ-loop) → getD (turn c .before .loop .counts) (kind c * 48 + half c) 0 ≡ length (prices c (call c .args .d))
 count-was c =
     let a = call c .args in
     half-was length 0 (a .halves) (a .prices .now) (a .kinds .now) (a .d) (half c) (below-48 c) (turn c .loop-test .taken) (kind-in (call c)) (turn c .before .loop .counts) (turn c .before .loop .inv .3)
@@ -190,16 +191,16 @@ add-counts c =
     omega (arith, count-was (c .before), prices-most (a .halves) (a .prices .now) (a .kinds .now) (kind (c .before)) (half (c .before)) (a .d), call (c .before) .pre .0 .1)
 
 mul-counts-2 : tie.Need-mul-counts-2 Inv-loop μ-loop
-mul-counts-2 c = omega (arith, place-in (c .before .before .before .before .before))
+mul-counts-2 c = omega (arith, place-in (turn (c .before)))
 
 element-write-counts : tie.Need-element-write-counts Inv-loop μ-loop
-element-write-counts c = omega (arith, place-in (c .before .before .before .before .before))
+element-write-counts c = omega (arith, place-in (turn (c .before)))
 
 add-h : tie.Need-add-h Inv-loop μ-loop
-add-h c = omega (arith, half-in (c .before .before .before .before .before))
+add-h c = omega (arith, half-in (turn (c .before)))
 
 loop-less : tie.Need-loop-less Inv-loop μ-loop
-loop-less c = omega (arith, half-in (c .before .before .before .before .before))
+loop-less c = omega (arith, half-in (turn (c .before)))
 
 loop-again : tie.Need-loop-again Inv-loop μ-loop
 loop-again c =
@@ -209,8 +210,8 @@ loop-again c =
     let from = a .d * (6 * a .halves) + 6 * half t in
     let next : a .d * (6 * a .halves) + 6 * (half t + 1) ≡ from + 6 = omega arith in (
       omega (arith, turn t .loop-test .taken),
-      c .before .before .before .bad-with .ensures
-          ∙ ap₂ (λ (six : List ℤ) (bad : ℕ). badWith (isEnergy (a .market)) six bad from) (c .before .before .before .before .half-hour .ensures) (l .inv .1)
+      t .before .before .before .half-of .ensures .1
+          ∙ ap₂ (λ (six : List ℤ) (bad : ℕ). badWith (isEnergy (a .market)) six bad from) (t .before .before .before .before .half-hour .ensures) (l .inv .1)
           ∙ bad-step (isEnergy (a .market)) (a .prices .now) from (a .d * (6 * a .halves) + 6 * a .halves) (omega (arith, turn t .loop-test .taken))
           ∙ ap (λ (n : ℕ). badBefore (isEnergy (a .market)) (a .prices .now) n (a .d * (6 * a .halves) + 6 * a .halves)) (sym next),
       half-step total (pos 0) (a .halves) (a .prices .now) (a .kinds .now) (a .d) (half t) (below-48 t) (turn t .loop-test .taken) (kind-in (call t)) (l .totals) _ (l .inv .2)
@@ -259,11 +260,10 @@ add-day-spec =
     mul-from
     add-from
     half-hour-requires
-    bad-with-requires
+    half-of-requires
     add-k
     mul-totals
     element-copy-out-totals
-    sum-of-requires
     add-totals
     mul-t26
     element-set-from-totals
