@@ -4,7 +4,7 @@ ghost use mathlib.Core.Path.{_≡_};
 ghost use Prim.Native.Nat.{_+_, _*_, _≤_, _<_};
 ghost use lib.Dec.{ltb};
 ghost use lib.IntN.{natAbs};
-ghost use lib.ListN.{length};
+ghost use lib.ListN.{length, getD};
 ghost use Rattle.laws.specs.Base.{pick};
 ghost use Rattle.laws.specs.Lists.{total, placesOf};
 ghost use Rattle.pricing.specs.Holding.{isEnergy};
@@ -123,6 +123,14 @@ fn half_of(market: usize, six: [i32; 6], bad: usize, from: usize) -> Half
     }
 }
 
+// Where the places of a day's kind begin.
+fn row_of(kinds: &[u8], d: usize) -> usize
+    requires { ⌜ (d < length (now kinds)) × (getD (now kinds) d 0 ≤ 1) ⌝ }
+    ensures { λ r. ⌜ r ≡ getD (now (kinds .entry)) d 0 * 48 ⌝ }
+{
+    if kinds[d] == 0 { 0 } else { 48 }
+}
+
 // Day d of the four weeks. After it the totals and counts are those of the days so far, this one included, and so is the first bad price.
 fn add_day(
     halves: usize,
@@ -143,7 +151,7 @@ fn add_day(
     ensures { λ _. ⌜ now (counts .exit) ≡ countsOf halves (now (prices .entry)) (now (kinds .entry)) (d + 1) ⌝ }
     ensures { λ _. ⌜ Room (d + 1) (now (totals .exit)) ⌝ }
 {
-    let row = kinds[d] as usize * 48;
+    let row = row_of(kinds, d);
     let first = d * (6 * halves);
     // the day's end, while none is bad
     let mut bad = first_of(found, first, 6 * halves);

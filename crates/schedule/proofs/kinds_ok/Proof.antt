@@ -1,4 +1,5 @@
 -- `schedule::kinds_ok` meets its contract. Assumes nothing.
+use mathlib.Core.Path.{refl}
 use borrow.Author.Needs.{needs}
 use Rattle.schedule.proofs.kinds_ok.Statement.{statement}
 use Rattle.schedule.proofs.kinds_ok.Tie as tie
@@ -13,7 +14,7 @@ has-kind-requires-2 : tie.Need-has-kind-requires-2
 has-kind-requires-2 c κs = search needs
 
 returns : tie.Need-returns
-returns c = rw (c .before .before .each-kind .ensures, c .before .has-kind .ensures, c .has-kind2 .ensures)
+returns c = rw (c .before .before .each-kind .ensures, c .before .has-kind .ensures, c .has-kind2 .ensures) refl
 
 pub kinds-ok-spec : {M : Type 1} → statement M
 kinds-ok-spec =

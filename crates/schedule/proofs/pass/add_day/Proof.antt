@@ -6,7 +6,7 @@ use native.Mathlib.Nat.{add-zero}
 use native.Mathlib.Omega.{arith}
 use borrow.Author.Needs.{needs}
 use lib.IntN.{ℤ, pos, natAbs, _+ℤ_}
-use lib.ListN.{length, getD}
+use lib.ListN.{length, getD, set}
 use mir.Syntax.{w64}
 use mir.Val.{SFits, toZ, ofZ}
 use mir.Facts.{toZ-ofZ}
@@ -40,14 +40,8 @@ module _ (s : tie.Start Inv-loop μ-loop) where
   kind-in : getD (s .args .kinds .now) (s .args .d) 0 ≤ 1
   kind-in = s .pre .0 .0 .kind (s .args .d) (s .pre .0 .1)
 
-shared-slice-read-row : tie.Need-shared-slice-read-row Inv-loop μ-loop
-shared-slice-read-row c = let s = c .before .before in omega (arith, s .pre .0 .0 .days, s .pre .0 .1)
-
-cast-row : tie.Need-cast-row Inv-loop μ-loop
-cast-row c = omega (arith, kind-in (c .before .before))
-
-mul-row : tie.Need-mul-row Inv-loop μ-loop
-mul-row c = omega (arith, kind-in (c .before .before))
+row-of-requires : tie.Need-row-of-requires Inv-loop μ-loop
+row-of-requires c κs = let s = c .before in (omega (arith, s .pre .0 .0 .days, s .pre .0 .1), kind-in s)
 
 mul-first : tie.Need-mul-first Inv-loop μ-loop
 mul-first c = omega (arith, day-in (c .before .before))
@@ -80,8 +74,15 @@ module _ (c : tie.In-loop Inv-loop μ-loop) where
   half-in : (start .args .d * (6 * start .args .halves) + 6 * c .before .loop .h + 6 ≤ length (start .args .prices .now)) × (length (start .args .prices .now) ≤ 8064)
   half-in = within (start .pre .0 .0) (start .args .d) (c .before .loop .h) (start .pre .0 .1) (c .loop-test .taken)
 
-  place-in : getD (start .args .kinds .now) (start .args .d) 0 * 48 + c .before .loop .h < 96
-  place-in = omega (arith, kind-in start, day-in start, c .loop-test .taken)
+  -- where its total and its count stand
+  abbrev place : ℕ
+  place = c .before .before .before .row-of .result + c .before .loop .h
+
+  place-is : place ≡ getD (start .args .kinds .now) (start .args .d) 0 * 48 + c .before .loop .h
+  place-is = ap (λ (row : ℕ). row + c .before .loop .h) (c .before .before .before .row-of .ensures)
+
+  place-in : place < 96
+  place-in = omega (arith, place-is, kind-in start, day-in start, c .loop-test .taken)
 
 mul-from : tie.Need-mul-from Inv-loop μ-loop
 mul-from c = omega (arith, half-in c)
@@ -119,7 +120,7 @@ module _ (c : tie.After-struct-told Inv-loop μ-loop) where
   kind = getD (call .args .kinds .now) (call .args .d) 0
 
   abbrev old : ℤ
-  old = getD (turn .before .loop .totals) (kind * 48 + half) (pos 0)
+  old = getD (turn .before .loop .totals) (place turn) (pos 0)
 
   abbrev prices : ℕ → List ℤ
   prices n = let a = call .args in pricesOf (a .halves) (a .prices .now) (a .kinds .now) kind half n
@@ -130,7 +131,8 @@ module _ (c : tie.After-struct-told Inv-loop μ-loop) where
   old-is : old ≡ total (prices (call .args .d))
   old-is =
       let a = call .args in
-      half-was total (pos 0) (a .halves) (a .prices .now) (a .kinds .now) (a .d) half below-48 (turn .loop-test .taken) (kind-in call) (turn .before .loop .totals) (turn .before .loop .inv .2)
+      ap (λ (k : ℕ). getD (turn .before .loop .totals) k (pos 0)) (place-is turn)
+      ∙ half-was total (pos 0) (a .halves) (a .prices .now) (a .kinds .now) (a .d) half below-48 (turn .loop-test .taken) (kind-in call) (turn .before .loop .totals) (turn .before .loop .inv .2)
 
   was-there : getD (call .args .totals .now) (kind * 48 + half) (pos 0) ≡ total (prices (call .args .d))
   was-there =
@@ -167,8 +169,8 @@ module _ (c : tie.After-struct-told Inv-loop μ-loop) where
 add-totals : tie.Need-add-totals Inv-loop μ-loop
 add-totals c = rw (added c) (new-fits c)
 
-mul-t26 : tie.Need-mul-t26 Inv-loop μ-loop
-mul-t26 c = omega (arith, place-in (turn c))
+mul-t24 : tie.Need-mul-t24 Inv-loop μ-loop
+mul-t24 c = omega (arith, place-in (turn c))
 
 element-set-from-totals : tie.Need-element-set-from-totals Inv-loop μ-loop
 element-set-from-totals c = omega (arith, place-in (turn c))
@@ -180,10 +182,11 @@ element-copy-out-counts : tie.Need-element-copy-out-counts Inv-loop μ-loop
 element-copy-out-counts c = omega (arith, place-in (turn c))
 
 -- the count that stood there
-count-was : (c : tie.After-struct-told Inv-loop μ-loop) → getD (turn c .before .loop .counts) (kind c * 48 + half c) 0 ≡ length (prices c (call c .args .d))
+count-was : (c : tie.After-struct-told Inv-loop μ-loop) → getD (turn c .before .loop .counts) (place (turn c)) 0 ≡ length (prices c (call c .args .d))
 count-was c =
     let a = call c .args in
-    half-was length 0 (a .halves) (a .prices .now) (a .kinds .now) (a .d) (half c) (below-48 c) (turn c .loop-test .taken) (kind-in (call c)) (turn c .before .loop .counts) (turn c .before .loop .inv .3)
+    ap (λ (k : ℕ). getD (turn c .before .loop .counts) k 0) (place-is (turn c))
+    ∙ half-was length 0 (a .halves) (a .prices .now) (a .kinds .now) (a .d) (half c) (below-48 c) (turn c .loop-test .taken) (kind-in (call c)) (turn c .before .loop .counts) (turn c .before .loop .inv .3)
 
 add-counts : tie.Need-add-counts Inv-loop μ-loop
 add-counts c =
@@ -208,17 +211,20 @@ loop-again c =
     let a = call t .args in
     let l = turn t .before .loop in
     let from = a .d * (6 * a .halves) + 6 * half t in
+    let bad : t .before .before .before .half-of .result .bad ≡ badWith (isEnergy (a .market)) (t .before .before .before .before .half-hour .result) (l .bad) from = t .before .before .before .half-of .ensures .1 in
     let next : a .d * (6 * a .halves) + 6 * (half t + 1) ≡ from + 6 = omega arith in (
       omega (arith, turn t .loop-test .taken),
-      t .before .before .before .half-of .ensures .1
+      bad
           ∙ ap₂ (λ (six : List ℤ) (bad : ℕ). badWith (isEnergy (a .market)) six bad from) (t .before .before .before .before .half-hour .ensures) (l .inv .1)
           ∙ bad-step (isEnergy (a .market)) (a .prices .now) from (a .d * (6 * a .halves) + 6 * a .halves) (omega (arith, turn t .loop-test .taken))
           ∙ ap (λ (n : ℕ). badBefore (isEnergy (a .market)) (a .prices .now) n (a .d * (6 * a .halves) + 6 * a .halves)) (sym next),
-      half-step total (pos 0) (a .halves) (a .prices .now) (a .kinds .now) (a .d) (half t) (below-48 t) (turn t .loop-test .taken) (kind-in (call t)) (l .totals) _ (l .inv .2)
+      ap (λ (k : ℕ). set (l .totals) k (toZ w64 (ofZ w64 (toZ w64 (ofZ w64 (old t)) +ℤ toZ w64 (ofZ w64 (sum t)))))) (place-is (turn t))
+          ∙ half-step total (pos 0) (a .halves) (a .prices .now) (a .kinds .now) (a .d) (half t) (below-48 t) (turn t .loop-test .taken) (kind-in (call t)) (l .totals) _ (l .inv .2)
           (ap (λ (z : ℤ). toZ w64 (ofZ w64 z)) (added t) ∙ toZ-ofZ (new-fits t) ∙ new-is t),
-      half-step length 0 (a .halves) (a .prices .now) (a .kinds .now) (a .d) (half t) (below-48 t) (turn t .loop-test .taken) (kind-in (call t)) (l .counts) _ (l .inv .3)
+      ap (λ (k : ℕ). set (l .counts) k (getD (l .counts) (place (turn t)) 0 + 6)) (place-is (turn t))
+          ∙ half-step length 0 (a .halves) (a .prices .now) (a .kinds .now) (a .d) (half t) (below-48 t) (turn t .loop-test .taken) (kind-in (call t)) (l .counts) _ (l .inv .3)
           (rw (count-was t) (prices-longer (a .halves) (a .prices .now) (a .kinds .now) (kind t) (half t) (a .d) refl)),
-      room-set ((a .d + 1) * 12884901888) (kind t * 48 + half t) (l .totals) _ (l .inv .4) (omega (arith, place-in (turn t), ap length (l .inv .2), table-size total (pos 0) (a .halves) (a .prices .now) (a .kinds .now) (during (a .d) (half t))))
+      room-set ((a .d + 1) * 12884901888) (place (turn t)) (l .totals) _ (l .inv .4) (omega (arith, place-in (turn t), ap length (l .inv .2), table-size total (pos 0) (a .halves) (a .prices .now) (a .kinds .now) (during (a .d) (half t))))
           (rw (added t, toZ-ofZ (new-fits t)) (new-size t)),
     )
 
@@ -249,9 +255,7 @@ add-day-spec =
     (tie.spec
     Inv-loop
     μ-loop
-    shared-slice-read-row
-    cast-row
-    mul-row
+    row-of-requires
     mul-first
     mul-first-2
     mul-first-of
@@ -265,7 +269,7 @@ add-day-spec =
     mul-totals
     element-copy-out-totals
     add-totals
-    mul-t26
+    mul-t24
     element-set-from-totals
     mul-counts
     element-copy-out-counts

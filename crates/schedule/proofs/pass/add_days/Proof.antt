@@ -31,7 +31,7 @@ add-day-requires : tie.Need-add-day-requires Inv-loop μ-loop
 add-day-requires c κs =
     let s = c .before .before .before .before .before in
     let l = c .before .before .before .loop in
-    ((s .pre .0 .0, c .before .before .loop-test .taken, l .inv .4), (l .inv .1, (l .inv .2, l .inv .3)))
+    ((s .pre .0 .0, omega arith, l .inv .4), (l .inv .1, (l .inv .2, l .inv .3)))
 
 add-d : tie.Need-add-d Inv-loop μ-loop
 add-d c = omega arith
