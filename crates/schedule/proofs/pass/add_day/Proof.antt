@@ -1,5 +1,5 @@
 -- `schedule::pass::add_day` meets its contract. The loop's invariant: totals, counts and first bad price are those of the half-hours passed. Assumes nothing.
-use mathlib.Core.Path.{_≡_, refl, ap, ap₂, sym, _∙_}
+use mathlib.Core.Path.{_≡_, refl, ap, ap₂, sym, subst, _∙_}
 use mathlib.Core.List.{List}
 use Prim.Native.Nat.{ℕ, _+_, _*_, _-_, _≤_, _<_}
 use native.Mathlib.Nat.{add-zero}
@@ -162,12 +162,12 @@ module _ (c : tie.After-struct-told Inv-loop μ-loop) where
   -- as the machine adds
   added : toZ w64 (ofZ w64 old) +ℤ toZ w64 (ofZ w64 sum) ≡ old +ℤ sum
   added =
-      let f : SFits w64 old = search needs in
+      let f = abs-fits w64 old (omega (arith, old-size, call .pre .0 .1)) in
       let g : SFits w64 sum = search needs in
       rw (toZ-ofZ f, toZ-ofZ g)
 
 add-totals : tie.Need-add-totals Inv-loop μ-loop
-add-totals c = rw (added c) (new-fits c)
+add-totals c = subst (λ (z : ℤ). SFits w64 z) (sym (added c)) (new-fits c)
 
 mul-t24 : tie.Need-mul-t24 Inv-loop μ-loop
 mul-t24 c = omega (arith, place-in (turn c))
