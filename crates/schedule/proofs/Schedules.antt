@@ -3,27 +3,30 @@ use mathlib.Core.Path.{_≡_, refl, sym, ap, _∙_}
 use mathlib.Core.Bool.{Bool, true, false, not, _&&_}
 use mathlib.Core.List.{List, [], _∷_, _++_}
 use mathlib.Core.Logic.{⊎-elim}
-use Prim.Native.Nat.{ℕ, zero, suc, _+_, _*_, _≤_, _<_}
+use Prim.Native.Nat.{ℕ, zero, suc, _+_, _*_, _^_, _≤_, _<_}
+use native.Mathlib.Nat.{mul-le-mul-right}
 use native.Mathlib.Numerals.{add-one}
 use native.Mathlib.Omega.{arith}
-use borrow.Author.Tests.{eq-eqb, eqb-true, eqb-false, lt-ltb, le-ltb, ltb-true, ltb-false, leb-true, not-false}
+use borrow.Author.Tests.{eq-eqb, ne-eqb, eqb-true, eqb-false, lt-ltb, le-ltb, ltb-true, ltb-false, leb-true, not-false}
 use lib.Dec.{eqb, leb, ltb}
 use lib.IntN.{ℤ, pos, negsuc, natAbs, _+ℤ_}
 use lib.Signed.{leZ}
-use lib.ListN.{length, getD, set, length-append, length-set, List·getD-eq-default}
+use lib.ListN.{length, getD, set, take, length-append, length-set, List·getD-eq-default}
 use lib.Seq.{ext-getD, getD-set-same, getD-set-other}
 use Rattle.laws.specs.Base.{pick}
-use Rattle.laws.specs.Lists.{run, tabulate, total}
-use Rattle.laws.proofs.Integers.{abs-add}
-use Rattle.laws.proofs.Lists.{all-at, any-at, length-run, getD-tabulate, tabulate-same, firstOf-passed, flat-lt}
+use Rattle.laws.specs.Lists.{run, tabulate, puts, total}
+use mir.Syntax.{Width}
+use mir.Val.{SFits, hbits}
+use Rattle.laws.proofs.Integers.{abs-add, abs-fits}
+use Rattle.laws.proofs.Lists.{all-at, any-at, length-run, getD-tabulate, tabulate-same, firstOf-passed, firstOf-all, firstOf-some, flat-lt}
 use Rattle.laws.proofs.Tests.{true-is, and-left, and-right, by-test, lt-or-ge}
-use Rattle.laws.proofs.Totals.{total-append, total-size}
+use Rattle.laws.proofs.Totals.{total-append, total-next, total-size}
 use Rattle.pricing.specs.Verdict.{accepted, refused, refusedAt}
 use Rattle.pricing.specs.Holding.{lowest, inRange, limitsOk}
 use Rattle.schedule.specs.Schedule.{halfHour, pricesOf, eachKind, hasKind, sizesOk, kindsOk, firstBad, mean, scheduled, row, zeros, refusedBy, schedule}
 use Rattle.schedule.specs.Running.{totalsOf, countsOf}
-use Rattle.schedule.specs.Working.{Days, Small, allInRange, Means, heldMean, rowBy}
-use Rattle.schedule.proofs.Runs.{table-there}
+use Rattle.schedule.specs.Working.{Days, Small, Countable, allInRange, firstOut, countedOn, Means, heldMean, rowBy}
+use Rattle.schedule.proofs.Runs.{table, table-there, during, day-none, day-done, half-step}
 
 -- a total of numbers of at most 10,000,000 each
 abbrev Bounded : List ℤ → Type 0
@@ -35,6 +38,16 @@ bounded-none = omega arith
 
 bounded-append : (l m : List ℤ) → Bounded l → Bounded m → Bounded (l ++ m)
 bounded-append l m p q = rw (total-append l m, length-append l m) (omega (arith, abs-add (total l) (total m)))
+
+-- ---- the sum of six numbers, one by one, in a width with room for six of the largest size
+pub sum-step : (w : Width) (b : ℕ) → 6 * b < 2 ^ hbits w → (six : List ℤ) → length six ≡ 6 → (j : ℕ) → j < 6 → (sum : ℤ) → sum ≡ total (take j six) → natAbs sum ≤ j * b → natAbs (getD six j (pos 0)) ≤ b
+    → (sum +ℤ getD six j (pos 0) ≡ total (take (j + 1) six)) × (natAbs (sum +ℤ getD six j (pos 0)) ≤ (j + 1) * b) × SFits w (sum +ℤ getD six j (pos 0))
+sum-step w b room six size j in-six sum is small next =
+    let large : natAbs (sum +ℤ getD six j (pos 0)) ≤ (j + 1) * b = omega (arith, abs-add sum (getD six j (pos 0))) in (
+      ap (λ (z : ℤ). z +ℤ getD six j (pos 0)) is ∙ sym (total-next six j (omega arith)),
+      large,
+      abs-fits w (sum +ℤ getD six j (pos 0)) (let in-six′ : j + 1 ≤ 6 = omega arith in let all = mul-le-mul-right b in-six′ in omega arith),
+    )
 
 -- ---- the six prices of a half-hour
 pub six-are : (f : ℕ → ℤ) {p0 p1 p2 p3 p4 p5 : ℤ} → p0 ≡ f 0 → p1 ≡ f 1 → p2 ≡ f 2 → p3 ≡ f 3 → p4 ≡ f 4 → p5 ≡ f 5
@@ -98,6 +111,37 @@ module _ (H : ℕ) (prices : List ℤ) (kinds : List ℕ) (kind h : ℕ) where
       (prices-bounded most n)
       (by-test (eqb (getD kinds n 0) kind) (λ e. rw e (half-bounded H prices n h most)) (λ e. rw e bounded-none))
 
+-- ---- a day's counts
+module _ {H : ℕ} {prices : List ℤ} {kinds : List ℕ} (w : Days H prices kinds) (d : ℕ) (in-weeks : d < 28) where
+  abbrev from : ℕ
+  from = getD kinds d 0 * 48
+
+  one : getD kinds d 0 ≤ 1
+  one = w .kind d in-weeks
+
+  before : (h : ℕ) → h < H → getD (countsOf H prices kinds d) (from + h) 0 ≡ length (pricesOf H prices kinds (getD kinds d 0) h d)
+  before h p = table-there length 0 H prices kinds (λ _. d) (getD kinds d 0) h one (omega (arith, w .halves)) p
+
+  pub countable : Countable H from (countsOf H prices kinds d)
+  countable =
+      record {
+        places = omega (arith, one, w .halves);
+        room = λ h p. omega (arith, before h p, prices-most H prices kinds (getD kinds d 0) h d);
+      }
+
+  counted-to : (h : ℕ) → h ≤ H → countedOn h from (countsOf H prices kinds d) ≡ table length 0 H prices kinds (during d h)
+  unfolding puts
+  counted-to zero p = day-none length 0 H prices kinds d
+  counted-to (suc h) p =
+      let n : suc h ≡ h + 1 = omega arith in
+      half-step length 0 H prices kinds d h (omega (arith, w .halves)) p one (countedOn h from (countsOf H prices kinds d)) (getD (countsOf H prices kinds d) (from + h) 0 + 6) (counted-to h (omega arith))
+      (ap (λ (x : ℕ). x + 6) (before h p) ∙ prices-longer H prices kinds (getD kinds d 0) h d refl)
+      ∙ ap (λ (x : ℕ). table length 0 H prices kinds (during d x)) (sym n)
+
+  -- they are those of the days so far, this one included
+  pub day-counted : countedOn H from (countsOf H prices kinds d) ≡ countsOf H prices kinds (d + 1)
+  day-counted = counted-to H (omega arith) ∙ day-done length 0 H prices kinds d
+
 -- ---- a row that is filled from the front: f at the places below h, zeros from there up
 module _ (f : ℕ → ℤ) where
   abbrev pub filled : ℕ → List ℤ
@@ -137,6 +181,16 @@ range-size false (negsuc n) e = absurd (true-is e)
 -- six prices in range
 pub six-small : (energy : Bool) (six : List ℤ) → allInRange energy six ≡ true → Small six
 six-small energy six e j h = range-size energy (getD six j (pos 0)) (all-at 6 (λ j. inRange energy (getD six j (pos 0))) e j h)
+
+-- all six are in range exactly if the first that is not is none of them
+pub all-by-first : (energy : Bool) (six : List ℤ) → eqb (firstOut energy six) 6 ≡ allInRange energy six
+all-by-first energy six =
+    by-test (allInRange energy six)
+    (λ e. rw e (eq-eqb (firstOut energy six) 6 (firstOf-all 6 there e)))
+    (λ e. rw e (ne-eqb (firstOut energy six) 6 (λ n. let l = firstOf-some 6 there e in omega arith)))
+  where
+    there : ℕ → Bool
+    there j = inRange energy (getD six j (pos 0))
 
 module _ (H : ℕ) (prices : List ℤ) (kinds : List ℕ) (e : sizesOk H prices kinds ≡ true) where
   pub sizes : ((1 ≤ H) × (H ≤ 48)) × ((length prices ≡ 28 * (6 * H)) × (length kinds ≡ 28))

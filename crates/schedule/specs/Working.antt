@@ -7,7 +7,7 @@ use lib.Dec.{ltb}
 use lib.IntN.{ℤ, pos, natAbs}
 use lib.ListN.{length, getD}
 use Rattle.laws.specs.Base.{pick}
-use Rattle.laws.specs.Lists.{tabulate, allBelow, firstOf}
+use Rattle.laws.specs.Lists.{tabulate, puts, allBelow, firstOf}
 use Rattle.pricing.specs.Rounding.{rounded}
 use Rattle.pricing.specs.Holding.{held, inRange}
 
@@ -36,6 +36,15 @@ firstOut energy six = firstOf 6 (λ j. not (inRange energy (getD six j (pos 0)))
 -- the first bad price with those of a half-hour, where `bad` is the first before it or else some place from there on
 abbrev pub badWith : Bool → List ℤ → ℕ → ℕ → ℕ
 badWith energy six bad from = pick (allInRange energy six) bad (pick (ltb bad from) bad (from + firstOut energy six))
+
+-- what is given where a day is counted: a kind's places, and room for six prices more in each
+pub record Countable (H row : ℕ) (counts : List ℕ) : Type 0 where
+  pub places : row + H ≤ 96
+  pub room : (h : ℕ) → h < H → getD counts (row + h) 0 ≤ 168
+
+-- six prices more in each place of a kind
+abbrev pub countedOn : ℕ → ℕ → List ℕ → List ℕ
+countedOn H row counts = puts counts (λ h. row + h) (λ h. getD counts (row + h) 0 + 6) H
 
 -- a total and a count that have a mean, of numbers of at most 10,000,000 each
 abbrev pub Meaned : ℤ → ℕ → Type 0

@@ -10,7 +10,7 @@ ghost use Rattle.laws.specs.Lists.{total, placesOf};
 ghost use Rattle.pricing.specs.Holding.{isEnergy};
 ghost use Rattle.schedule.specs.Schedule.{firstBad};
 ghost use Rattle.schedule.specs.Running.{totalsOf, countsOf, badIn};
-ghost use Rattle.schedule.specs.Working.{Days, Room, Small, allInRange, firstOut, badWith};
+ghost use Rattle.schedule.specs.Working.{Days, Room, Small, Countable, allInRange, firstOut, badWith, countedOn};
 
 // The six prices of a half-hour, from a place on: each is read here, and nowhere else.
 fn half_hour(prices: &[i32], from: usize) -> [i32; 6]
@@ -53,30 +53,6 @@ fn small_sum(six: [i32; 6]) -> i32
     sum
 }
 
-fn six_in_range(market: usize, six: [i32; 6]) -> bool
-    ensures { λ r. ⌜ r ≡ allInRange (isEnergy market) six ⌝ }
-{
-    let mut j: usize = 0;
-    while j < 6 {
-        if !in_range(market, six[j]) {
-            return false;
-        }
-        j += 1;
-    }
-    true
-}
-
-// The same with the market settled first: prices are tested against constants, four at once.
-fn all_in_range(market: usize, six: [i32; 6]) -> bool
-    ensures { λ r. ⌜ r ≡ allInRange (isEnergy market) six ⌝ }
-{
-    if market == 0 {
-        six_in_range(0, six)
-    } else {
-        six_in_range(1, six)
-    }
-}
-
 // Which of the six is the first out of range, or 6.
 fn first_bad(market: usize, six: [i32; 6]) -> usize
     ensures { λ r. ⌜ r ≡ firstOut (isEnergy market) six ⌝ }
@@ -89,6 +65,17 @@ fn first_bad(market: usize, six: [i32; 6]) -> usize
         j += 1;
     }
     6
+}
+
+// Whether none is, with the market settled first: prices are tested against constants, four at once.
+fn all_in_range(market: usize, six: [i32; 6]) -> bool
+    ensures { λ r. ⌜ r ≡ allInRange (isEnergy market) six ⌝ }
+{
+    if market == 0 {
+        first_bad(0, six) == 6
+    } else {
+        first_bad(1, six) == 6
+    }
 }
 
 // The first bad price of those before a place, or else the one that many places on.
@@ -131,6 +118,19 @@ fn row_of(kinds: &[u8], d: usize) -> usize
     if kinds[d] == 0 { 0 } else { 48 }
 }
 
+// Six prices more for each half-hour of the kind whose places begin at `row`.
+fn count_day(halves: usize, row: usize, counts: &mut [u32; 96])
+    requires { ⌜ Countable halves row (now counts) ⌝ }
+    ensures { λ _. ⌜ now (counts .exit) ≡ countedOn halves row (now (counts .entry)) ⌝ }
+{
+    let mut h: usize = 0;
+    while h < halves {
+        let k = row + h;
+        counts[k] = counts[k] + 6;
+        h += 1;
+    }
+}
+
 // Day d of the four weeks. After it the totals and counts are those of the days so far, this one included, and so is the first bad price.
 fn add_day(
     halves: usize,
@@ -152,6 +152,7 @@ fn add_day(
     ensures { λ _. ⌜ Room (d + 1) (now (totals .exit)) ⌝ }
 {
     let row = row_of(kinds, d);
+    count_day(halves, row, counts);
     let first = d * (6 * halves);
     // the day's end, while none is bad
     let mut bad = first_of(found, first, 6 * halves);
@@ -163,7 +164,6 @@ fn add_day(
         bad = half.bad;
         let k = row + h;
         totals[k] = totals[k] + half.sum;
-        counts[k] = counts[k] + 6;
         h += 1;
     }
     bad

@@ -15,22 +15,21 @@ use Rattle.laws.proofs.Integers.{abs-add, abs-fits}
 use Rattle.pricing.specs.Holding.{isEnergy}
 use Rattle.schedule.specs.Schedule.{pricesOf, halfHour}
 use Rattle.schedule.specs.Running.{badIn}
-use Rattle.schedule.specs.Working.{Room, badWith}
+use Rattle.schedule.specs.Working.{Room, badWith, countedOn}
 use Rattle.schedule.proofs.Runs.{table, table-size, table-there, during, day-none, day-done, half-was, half-step, room-set, badBefore, bad-step, bad-done}
-use Rattle.schedule.proofs.Schedules.{within, prices-taken, prices-longer, prices-most}
+use Rattle.schedule.proofs.Schedules.{within, prices-taken, countable, day-counted}
 use Rattle.schedule.proofs.pass.add_day.Statement.{statement}
 use Rattle.schedule.proofs.pass.add_day.Tie as tie
 
 abbrev Inv-loop : tie.InvT-loop
-Inv-loop halves market prices kinds d found totals₀ counts₀ row first bad₀ h₀ totals counts bad h =
+Inv-loop halves market prices kinds d found totals₀ counts row first bad₀ h₀ totals bad h =
     (h ≤ halves)
     × (bad ≡ badBefore (isEnergy market) prices (d * (6 * halves) + 6 * h) (d * (6 * halves) + 6 * halves))
     × (totals ≡ table total (pos 0) halves prices kinds (during d h))
-    × (counts ≡ table length 0 halves prices kinds (during d h))
     × Room (d + 1) totals
 
 abbrev μ-loop : tie.MeasureT-loop
-μ-loop halves market prices kinds d found totals₀ counts₀ row first bad₀ h₀ totals counts bad h = halves - h
+μ-loop halves market prices kinds d found totals₀ counts row first bad₀ h₀ totals bad h = halves - h
 
 -- ---- where the day and a half-hour of it lie
 module _ (s : tie.Start Inv-loop μ-loop) where
@@ -43,43 +42,47 @@ module _ (s : tie.Start Inv-loop μ-loop) where
 row-of-requires : tie.Need-row-of-requires Inv-loop μ-loop
 row-of-requires c κs = let s = c .before in (omega (arith, s .pre .0 .0 .days, s .pre .0 .1), kind-in s)
 
+count-day-requires : tie.Need-count-day-requires Inv-loop μ-loop
+count-day-requires c κs =
+    let s = c .before .before .before in
+    rw (c .before .row-of .ensures, s .pre .1 .1 .1) (countable (s .pre .0 .0) (s .args .d) (s .pre .0 .1))
+
 mul-first : tie.Need-mul-first Inv-loop μ-loop
-mul-first c = omega (arith, day-in (c .before .before))
+mul-first c = omega (arith, day-in (c .before .before .before .before))
 
 mul-first-2 : tie.Need-mul-first-2 Inv-loop μ-loop
-mul-first-2 c = omega (arith, day-in (c .before .before))
+mul-first-2 c = omega (arith, day-in (c .before .before .before .before))
 
 mul-first-of : tie.Need-mul-first-of Inv-loop μ-loop
-mul-first-of c = omega (arith, day-in (c .before .before))
+mul-first-of c = omega (arith, day-in (c .before .before .before .before))
 
 first-of-requires : tie.Need-first-of-requires Inv-loop μ-loop
-first-of-requires c κs = omega (arith, day-in (c .before .before))
+first-of-requires c κs = omega (arith, day-in (c .before .before .before .before))
 
 loop-holds : tie.Need-loop-holds Inv-loop μ-loop
 loop-holds c =
-    let s = c .before .before .before in
+    let s = c .before .before .before .before .before in
     let a = s .args in (
       omega arith,
       c .first-of .ensures ∙ rw (add-zero (a .d * (6 * a .halves)), s .pre .1 .0),
       s .pre .1 .1 .0 ∙ day-none total (pos 0) (a .halves) (a .prices .now) (a .kinds .now) (a .d),
-      s .pre .1 .1 .1 ∙ day-none length 0 (a .halves) (a .prices .now) (a .kinds .now) (a .d),
       λ k. omega (arith, s .pre .0 .2 k),
     )
 
 -- the half-hour of a turn
 module _ (c : tie.In-loop Inv-loop μ-loop) where
   abbrev start : tie.Start Inv-loop μ-loop
-  start = c .before .before .before .before .before
+  start = c .before .before .before .before .before .before .before
 
   half-in : (start .args .d * (6 * start .args .halves) + 6 * c .before .loop .h + 6 ≤ length (start .args .prices .now)) × (length (start .args .prices .now) ≤ 8064)
   half-in = within (start .pre .0 .0) (start .args .d) (c .before .loop .h) (start .pre .0 .1) (c .loop-test .taken)
 
   -- where its total and its count stand
   abbrev place : ℕ
-  place = c .before .before .before .row-of .result + c .before .loop .h
+  place = c .before .before .before .before .before .row-of .result + c .before .loop .h
 
   place-is : place ≡ getD (start .args .kinds .now) (start .args .d) 0 * 48 + c .before .loop .h
-  place-is = ap (λ (row : ℕ). row + c .before .loop .h) (c .before .before .before .row-of .ensures)
+  place-is = ap (λ (row : ℕ). row + c .before .loop .h) (c .before .before .before .before .before .row-of .ensures)
 
   place-in : place < 96
   place-in = omega (arith, place-is, kind-in start, day-in start, c .loop-test .taken)
@@ -111,7 +114,7 @@ module _ (c : tie.After-struct-told Inv-loop μ-loop) where
   turn = c .before .before .before .before .before
 
   abbrev call : tie.Start Inv-loop μ-loop
-  call = turn .before .before .before .before .before
+  call = turn .before .before .before .before .before .before .before
 
   abbrev half : ℕ
   half = turn .before .loop .h
@@ -169,69 +172,43 @@ module _ (c : tie.After-struct-told Inv-loop μ-loop) where
 add-totals : tie.Need-add-totals Inv-loop μ-loop
 add-totals c = subst (λ (z : ℤ). SFits w64 z) (sym (added c)) (new-fits c)
 
-mul-t24 : tie.Need-mul-t24 Inv-loop μ-loop
-mul-t24 c = omega (arith, place-in (turn c))
+mul-t26 : tie.Need-mul-t26 Inv-loop μ-loop
+mul-t26 c = omega (arith, place-in (turn c))
 
 element-set-from-totals : tie.Need-element-set-from-totals Inv-loop μ-loop
 element-set-from-totals c = omega (arith, place-in (turn c))
 
-mul-counts : tie.Need-mul-counts Inv-loop μ-loop
-mul-counts c = omega (arith, place-in (turn c))
-
-element-copy-out-counts : tie.Need-element-copy-out-counts Inv-loop μ-loop
-element-copy-out-counts c = omega (arith, place-in (turn c))
-
--- the count that stood there
-count-was : (c : tie.After-struct-told Inv-loop μ-loop) → getD (turn c .before .loop .counts) (place (turn c)) 0 ≡ length (prices c (call c .args .d))
-count-was c =
-    let a = call c .args in
-    ap (λ (k : ℕ). getD (turn c .before .loop .counts) k 0) (place-is (turn c))
-    ∙ half-was length 0 (a .halves) (a .prices .now) (a .kinds .now) (a .d) (half c) (below-48 c) (turn c .loop-test .taken) (kind-in (call c)) (turn c .before .loop .counts) (turn c .before .loop .inv .3)
-
-add-counts : tie.Need-add-counts Inv-loop μ-loop
-add-counts c =
-    let a = call (c .before) .args in
-    omega (arith, count-was (c .before), prices-most (a .halves) (a .prices .now) (a .kinds .now) (kind (c .before)) (half (c .before)) (a .d), call (c .before) .pre .0 .1)
-
-mul-counts-2 : tie.Need-mul-counts-2 Inv-loop μ-loop
-mul-counts-2 c = omega (arith, place-in (turn (c .before)))
-
-element-write-counts : tie.Need-element-write-counts Inv-loop μ-loop
-element-write-counts c = omega (arith, place-in (turn (c .before)))
-
 add-h : tie.Need-add-h Inv-loop μ-loop
-add-h c = omega (arith, half-in (turn (c .before)))
+add-h c = omega (arith, half-in (turn c))
 
 loop-less : tie.Need-loop-less Inv-loop μ-loop
-loop-less c = omega (arith, half-in (turn (c .before)))
+loop-less c = omega (arith, half-in (turn c))
 
 loop-again : tie.Need-loop-again Inv-loop μ-loop
 loop-again c =
-    let t = c .before in
-    let a = call t .args in
-    let l = turn t .before .loop in
-    let from = a .d * (6 * a .halves) + 6 * half t in
-    let bad : t .before .before .before .half-of .result .bad ≡ badWith (isEnergy (a .market)) (t .before .before .before .before .half-hour .result) (l .bad) from = t .before .before .before .half-of .ensures .1 in
-    let next : a .d * (6 * a .halves) + 6 * (half t + 1) ≡ from + 6 = omega arith in (
-      omega (arith, turn t .loop-test .taken),
+    let a = call c .args in
+    let l = turn c .before .loop in
+    let from = a .d * (6 * a .halves) + 6 * half c in
+    let bad : c .before .before .before .half-of .result .bad ≡ badWith (isEnergy (a .market)) (c .before .before .before .before .half-hour .result) (l .bad) from = c .before .before .before .half-of .ensures .1 in
+    let next : a .d * (6 * a .halves) + 6 * (half c + 1) ≡ from + 6 = omega arith in (
+      omega (arith, turn c .loop-test .taken),
       bad
-          ∙ ap₂ (λ (six : List ℤ) (bad : ℕ). badWith (isEnergy (a .market)) six bad from) (t .before .before .before .before .half-hour .ensures) (l .inv .1)
-          ∙ bad-step (isEnergy (a .market)) (a .prices .now) from (a .d * (6 * a .halves) + 6 * a .halves) (omega (arith, turn t .loop-test .taken))
+          ∙ ap₂ (λ (six : List ℤ) (bad : ℕ). badWith (isEnergy (a .market)) six bad from) (c .before .before .before .before .half-hour .ensures) (l .inv .1)
+          ∙ bad-step (isEnergy (a .market)) (a .prices .now) from (a .d * (6 * a .halves) + 6 * a .halves) (omega (arith, turn c .loop-test .taken))
           ∙ ap (λ (n : ℕ). badBefore (isEnergy (a .market)) (a .prices .now) n (a .d * (6 * a .halves) + 6 * a .halves)) (sym next),
-      ap (λ (k : ℕ). set (l .totals) k (toZ w64 (ofZ w64 (toZ w64 (ofZ w64 (old t)) +ℤ toZ w64 (ofZ w64 (sum t)))))) (place-is (turn t))
-          ∙ half-step total (pos 0) (a .halves) (a .prices .now) (a .kinds .now) (a .d) (half t) (below-48 t) (turn t .loop-test .taken) (kind-in (call t)) (l .totals) _ (l .inv .2)
-          (ap (λ (z : ℤ). toZ w64 (ofZ w64 z)) (added t) ∙ toZ-ofZ (new-fits t) ∙ new-is t),
-      ap (λ (k : ℕ). set (l .counts) k (getD (l .counts) (place (turn t)) 0 + 6)) (place-is (turn t))
-          ∙ half-step length 0 (a .halves) (a .prices .now) (a .kinds .now) (a .d) (half t) (below-48 t) (turn t .loop-test .taken) (kind-in (call t)) (l .counts) _ (l .inv .3)
-          (rw (count-was t) (prices-longer (a .halves) (a .prices .now) (a .kinds .now) (kind t) (half t) (a .d) refl)),
-      room-set ((a .d + 1) * 12884901888) (place (turn t)) (l .totals) _ (l .inv .4) (omega (arith, place-in (turn t), ap length (l .inv .2), table-size total (pos 0) (a .halves) (a .prices .now) (a .kinds .now) (during (a .d) (half t))))
-          (rw (added t, toZ-ofZ (new-fits t)) (new-size t)),
+      ap (λ (k : ℕ). set (l .totals) k (toZ w64 (ofZ w64 (toZ w64 (ofZ w64 (old c)) +ℤ toZ w64 (ofZ w64 (sum c)))))) (place-is (turn c))
+          ∙ half-step total (pos 0) (a .halves) (a .prices .now) (a .kinds .now) (a .d) (half c) (below-48 c) (turn c .loop-test .taken) (kind-in (call c)) (l .totals) _ (l .inv .2)
+          (ap (λ (z : ℤ). toZ w64 (ofZ w64 z)) (added c) ∙ toZ-ofZ (new-fits c) ∙ new-is c),
+      room-set ((a .d + 1) * 12884901888) (place (turn c)) (l .totals) _ (l .inv .3) (omega (arith, place-in (turn c), ap length (l .inv .2), table-size total (pos 0) (a .halves) (a .prices .now) (a .kinds .now) (during (a .d) (half c))))
+          (rw (added c, toZ-ofZ (new-fits c)) (new-size c)),
     )
 
 returns : tie.Need-returns Inv-loop μ-loop
 returns c =
     let l = c .before .loop in
-    let a = c .before .before .before .before .before .args in
+    let counted = c .before .before .before in
+    let s = counted .before .before .before .before in
+    let a = s .args in
     let e : l .h ≡ a .halves = omega arith in
     let end : a .d * (6 * a .halves) + 6 * a .halves ≡ (a .d + 1) * (6 * a .halves) = omega arith in (
       l .inv .1
@@ -242,9 +219,10 @@ returns c =
         l .inv .2 ∙ ap (λ (h : ℕ). table total (pos 0) (a .halves) (a .prices .now) (a .kinds .now) (during (a .d) h)) e
             ∙ day-done total (pos 0) (a .halves) (a .prices .now) (a .kinds .now) (a .d),
         (
-          l .inv .3 ∙ ap (λ (h : ℕ). table length 0 (a .halves) (a .prices .now) (a .kinds .now) (during (a .d) h)) e
-              ∙ day-done length 0 (a .halves) (a .prices .now) (a .kinds .now) (a .d),
-          l .inv .4,
+          counted .count-day .ensures
+              ∙ ap₂ (countedOn (a .halves)) (counted .before .before .row-of .ensures) (s .pre .1 .1 .1)
+              ∙ day-counted (s .pre .0 .0) (a .d) (s .pre .0 .1),
+          l .inv .3,
         ),
       ),
     )
@@ -256,6 +234,7 @@ add-day-spec =
     Inv-loop
     μ-loop
     row-of-requires
+    count-day-requires
     mul-first
     mul-first-2
     mul-first-of
@@ -269,13 +248,8 @@ add-day-spec =
     mul-totals
     element-copy-out-totals
     add-totals
-    mul-t24
+    mul-t26
     element-set-from-totals
-    mul-counts
-    element-copy-out-counts
-    add-counts
-    mul-counts-2
-    element-write-counts
     add-h
     loop-less
     loop-again

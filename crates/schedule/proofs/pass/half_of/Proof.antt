@@ -3,12 +3,11 @@ use mathlib.Core.Path.{_≡_, refl, sym, _∙_}
 use mathlib.Core.Bool.{true, false, not}
 use native.Mathlib.Omega.{arith}
 use borrow.Author.Needs.{needs}
-use lib.IntN.{pos, natAbs}
+use lib.IntN.{pos}
 use lib.ListN.{getD}
 use mir.Syntax.{w32, w64}
 use mir.Val.{SFits, toZ, ofZ}
 use mir.Facts.{toZ-ofZ}
-use Rattle.laws.specs.Lists.{total}
 use Rattle.laws.proofs.Integers.{signed, i32-i64, fits-abs}
 use Rattle.laws.proofs.Lists.{firstOf-most}
 use Rattle.pricing.specs.Holding.{isEnergy, inRange}

@@ -1,5 +1,5 @@
 -- `schedule::pass::small_sum` meets its contract. The loop's invariant: the sum of the prices passed, and its size. Assumes nothing.
-use mathlib.Core.Path.{_≡_, ap, sym, _∙_}
+use mathlib.Core.Path.{_≡_, ap, _∙_}
 use Prim.Native.Nat.{_+_, _*_, _-_, _≤_}
 use native.Mathlib.Omega.{arith}
 use borrow.Author.Needs.{needs}
@@ -9,8 +9,9 @@ use lib.Seq.{take-length}
 use mir.Syntax.{w32}
 use mir.Val.{SFits, toZ}
 use Rattle.laws.specs.Lists.{total}
-use Rattle.laws.proofs.Integers.{signed, abs-add, abs-fits}
-use Rattle.laws.proofs.Totals.{total-none, total-next}
+use Rattle.laws.proofs.Integers.{signed}
+use Rattle.laws.proofs.Totals.{total-none}
+use Rattle.schedule.proofs.Schedules.{sum-step}
 use Rattle.schedule.proofs.pass.small_sum.Statement.{statement}
 use Rattle.schedule.proofs.pass.small_sum.Tie as tie
 
@@ -29,6 +30,7 @@ mul-sum c = omega arith
 array-copy-out-sum : tie.Need-array-copy-out-sum Inv-loop μ-loop
 array-copy-out-sum c = omega arith
 
+-- the price that is read, and the sum with it
 module _ (c : tie.After-sum Inv-loop μ-loop) where
   abbrev price : ℤ
   price = getD (c .before .before .before .args .t1) (c .before .before .loop .j) (pos 0)
@@ -36,19 +38,18 @@ module _ (c : tie.After-sum Inv-loop μ-loop) where
   fits : SFits w32 price
   fits = search needs
 
-  next : toZ w32 (c .before .before .loop .sum) +ℤ price ≡ total (take (c .before .before .loop .j + 1) (c .before .before .before .args .t1))
-  next =
+  abbrev next : ℤ
+  next = toZ w32 (c .before .before .loop .sum) +ℤ price
+
+  step : (next ≡ total (take (c .before .before .loop .j + 1) (c .before .before .before .args .t1)))
+      × (natAbs next ≤ (c .before .before .loop .j + 1) * 10000000) × SFits w32 next
+  step =
       let l = c .before .before .loop in
-      ap (λ (z : ℤ). z +ℤ price) (l .inv .2) ∙ sym (total-next (c .before .before .before .args .t1) (l .j) (omega arith))
-
-  size : natAbs (toZ w32 (c .before .before .loop .sum) +ℤ price) ≤ (c .before .before .loop .j + 1) * 10000000
-  size = omega (arith, abs-add (toZ w32 (c .before .before .loop .sum)) price, c .before .before .before .pre (c .before .before .loop .j) (omega arith))
-
-  next-fits : SFits w32 (toZ w32 (c .before .before .loop .sum) +ℤ price)
-  next-fits = abs-fits w32 (toZ w32 (c .before .before .loop .sum) +ℤ price) (omega (arith, size))
+      sum-step w32 10000000 (omega arith) (c .before .before .before .args .t1) (l .inv .1) (l .j) (c .before .loop-test .taken) (toZ w32 (l .sum)) (l .inv .2) (l .inv .3)
+      (c .before .before .before .pre (c .before .before .loop .j) (c .before .loop-test .taken))
 
 add-sum : tie.Need-add-sum Inv-loop μ-loop
-add-sum c = simp (signed, fits c) (next-fits c)
+add-sum c = simp (signed, fits c) (step c .2)
 
 add-j : tie.Need-add-j Inv-loop μ-loop
 add-j c = omega arith
@@ -57,7 +58,7 @@ loop-less : tie.Need-loop-less Inv-loop μ-loop
 loop-less c = omega arith
 
 loop-again : tie.Need-loop-again Inv-loop μ-loop
-loop-again c = (omega arith, c .before .before .loop .inv .1, simp (signed, fits c, next-fits c) (next c), simp (signed, fits c, next-fits c) (size c))
+loop-again c = (omega arith, c .before .before .loop .inv .1, simp (signed, fits c, step c .2) (step c .0), simp (signed, fits c, step c .2) (step c .1))
 
 returns : tie.Need-returns Inv-loop μ-loop
 returns c =
