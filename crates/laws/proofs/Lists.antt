@@ -85,9 +85,6 @@ unfolding allBelow
 at-all zero t h = refl
 at-all (suc n) t h = rw (at-all n t (λ k l. h k (omega arith)), h n (omega arith))
 
-pub not-all : (n k : ℕ) (t : ℕ → Bool) → k < n → t k ≡ false → allBelow n t ≡ false
-not-all n k t h e = by-test (allBelow n t) (λ a. never (t k) (all-at n t a k h) e) (λ a. a)
-
 pub any-at : (n : ℕ) (t : ℕ → Bool) → anyBelow n t ≡ true → (k : ℕ) × (k < n) × (t k ≡ true)
 unfolding anyBelow
 any-at zero t e = absurd (true-is e)
