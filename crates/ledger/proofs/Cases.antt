@@ -16,6 +16,7 @@ use Rattle.schedule.specs.Schedule.{mean}
 use Rattle.pricing.specs.Rounding.{nearest, rounded}
 use Rattle.pricing.specs.Holding.{held}
 use Rattle.pricing.specs.Carrying.{carried}
+use Rattle.pricing.specs.Passing.{cents}
 use Rattle.book.specs.declared.record.Settings.{Settings}
 use Rattle.book.specs.Validity.{valid}
 use Rattle.book_calls.specs.Opening as Opening
@@ -27,7 +28,7 @@ use Rattle.routes.specs.Routes as Routes
 use Rattle.publishing.specs.Entry.{entryOf}
 use Rattle.publishing.specs.Effective.{scheduled, effective}
 use Rattle.publishing.specs.Capped.{anyAdministered, cappedBy}
-use Rattle.publishing.specs.Bounds.{hasLimit, limit, atMost, atLeast}
+use Rattle.publishing.specs.Bounds.{hasLimit, inCents, limit, atMost, atLeast}
 use Rattle.publishing.specs.Published.{published}
 use Rattle.entries.specs.Checking.{entryVerdict}
 use Rattle.entries.specs.Entering as Entering
@@ -39,7 +40,7 @@ use Rattle.ledger.specs.Demand.{settingsOf, opening}
 
 -- ---- what a row takes of the answers
 -- of each entry its count and published table
-abbrev tables : List Answer → List ℤ
+abbrev pub tables : List Answer → List ℤ
 tables [] = []
 tables (entered v count table ∷ l) = pos count ∷ (table ++ tables l)
 tables (set v ∷ l) = tables l
@@ -59,13 +60,15 @@ reports number (restarted v ∷ l) = reports number l
 abbrev book : ℕ → ℕ → List ℕ → Settings
 book regions window parents = settingsOf regions 0 window 1 0 (λ r. getD parents r 255) (pos 95000) (pos 60000) (negsuc 59999)
 
--- both machines from that opening: the book over a ring that held something, and P
-abbrev both : (List Answer → List ℤ) → ℕ → ℕ → List ℕ → List Call → List ℤ
-both taken regions window parents L =
-    taken (answers Book.play (opening (book regions window parents) (replicate (regions * window) (pos 7))) L)
-    ++ taken (answers Ledger.play (Ledger.begin (book regions window parents)) L)
+-- both machines from an opening: the book over a ring of so many places that held something, and P
+abbrev pub bothFrom : (List Answer → List ℤ) → Settings → ℕ → List Call → List ℤ
+bothFrom taken s places L =
+    taken (answers Book.play (opening s (replicate places (pos 7))) L) ++ taken (answers Ledger.play (Ledger.begin s) L)
 
-abbrev twice : List ℤ → List ℤ
+abbrev both : (List Answer → List ℤ) → ℕ → ℕ → List ℕ → List Call → List ℤ
+both taken regions window parents L = bothFrom taken (book regions window parents) (regions * window) L
+
+abbrev pub twice : List ℤ → List ℤ
 twice l = l ++ l
 
 -- ---- "R 3, parents 255, 0, 1, S 0, W 1"
@@ -139,5 +142,5 @@ cases = Pricing.cases ++ (Schedule.cases ++ bookCases)
 
 -- the one test over all of them
 pub cases-agree : agree cases ≡ true
-unfolding agree cases bookCases Pricing.cases Schedule.cases indexed mean sameNumbers answers Ledger.play Book.play entryVerdict entriesOf firstOf run countBelow published Ledger.reportOf atLeast Report.reportVerdict limit total administeredAt Routes.limitOf lastN anyBelow Routes.overAll unmarkedPrices lastSet Routes.routesFrom before tighter allBelow Routes.along hasLimit atMost cappedBy effective Opening.opened Opening.openVerdict Entering.entered Report.reportOf valid over powerOf minZ maxZ held carried rounded nearest Routes.joined Routes.after scheduled anyAdministered
+unfolding agree cases bookCases Pricing.cases Schedule.cases indexed mean sameNumbers answers Ledger.play Book.play entryVerdict entriesOf firstOf run countBelow published Ledger.reportOf atLeast Report.reportVerdict limit total administeredAt Routes.limitOf lastN anyBelow Routes.overAll unmarkedPrices lastSet Routes.routesFrom before tighter allBelow Routes.along hasLimit atMost cappedBy effective Opening.opened Opening.openVerdict Entering.entered Report.reportOf valid over powerOf minZ maxZ held carried cents inCents rounded nearest Routes.joined Routes.after scheduled anyAdministered
 cases-agree = refl

@@ -16,5 +16,6 @@ pub mod Restarts
 pub mod Theorem
 pub mod Corollaries
 pub mod Cases
+pub mod Chains
 pub mod Run
 pub mod Full

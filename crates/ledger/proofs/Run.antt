@@ -13,6 +13,7 @@ use Rattle.pricing.specs.Verdict.{Verdict, accepted, refused, refusedAt}
 use Rattle.pricing.specs.Rounding.{nearest, rounded}
 use Rattle.pricing.specs.Holding.{held}
 use Rattle.pricing.specs.Carrying.{carried}
+use Rattle.pricing.specs.Passing.{cents}
 use Rattle.book.specs.declared.record.Settings.{Settings}
 use Rattle.book.specs.Validity.{valid}
 use Rattle.book_calls.specs.Opening as Opening
@@ -25,7 +26,7 @@ use Rattle.routes.specs.Routes as Routes
 use Rattle.publishing.specs.Entry.{entryOf}
 use Rattle.publishing.specs.Effective.{scheduled, effective}
 use Rattle.publishing.specs.Capped.{anyAdministered, cappedBy}
-use Rattle.publishing.specs.Bounds.{hasLimit, limit, atMost, atLeast}
+use Rattle.publishing.specs.Bounds.{hasLimit, inCents, limit, atMost, atLeast}
 use Rattle.publishing.specs.Published.{published}
 use Rattle.head.specs.Layout.{widths, firsts, seconds, values, imageOf, bookOf}
 use Rattle.image.specs.Storing.{storeVerdict, stored}
@@ -144,5 +145,5 @@ opening-accepted = refl
 
 -- the book from its opening, and P
 pub runs : (answers Book.play (opening settings ring) calls ≡ expected) × (answers Ledger.play (Ledger.begin settings) calls ≡ expected)
-unfolding answers Book.play Ledger.play Opening.opened Opening.openVerdict valid Entering.entered entryVerdict setThreshold setLimits thresholdVerdict limitsVerdict entriesOf before lastSet unmarkedPrices administeredAt countsTo restartVerdict run firstOf countBelow allBelow anyBelow total lastN Ledger.reportOf Report.reportOf Report.reportVerdict published effective scheduled cappedBy anyAdministered hasLimit limit atMost atLeast powerOf tighter over Routes.limitOf Routes.overAll Routes.routesFrom Routes.along Routes.joined Routes.after minZ maxZ held carried rounded nearest stored storeVerdict imageOf values firsts seconds words widths encode le joined sumFrom loaded loadVerdict headVerdict numberAt number decode bookOf badFrom bookFrom ringFrom windowsFrom sumsFrom
+unfolding answers Book.play Ledger.play Opening.opened Opening.openVerdict valid Entering.entered entryVerdict setThreshold setLimits thresholdVerdict limitsVerdict entriesOf before lastSet unmarkedPrices administeredAt countsTo restartVerdict run firstOf countBelow allBelow anyBelow total lastN Ledger.reportOf Report.reportOf Report.reportVerdict published effective scheduled cappedBy anyAdministered hasLimit limit atMost atLeast powerOf tighter over Routes.limitOf Routes.overAll Routes.routesFrom Routes.along Routes.joined Routes.after minZ maxZ held carried cents inCents rounded nearest stored storeVerdict imageOf values firsts seconds words widths encode le joined sumFrom loaded loadVerdict headVerdict numberAt number decode bookOf badFrom bookFrom ringFrom windowsFrom sumsFrom
 runs = (refl, refl)

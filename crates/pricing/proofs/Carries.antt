@@ -1,20 +1,18 @@
--- Laws of a limit carried over one link and over links in turn: the order is kept, the result is the nearest, and it stays
--- in its bounds. `caps` tells a cap limit from a floor limit. Assumes nothing.
+-- Laws of a limit carried over one link: the order is kept, the result is the nearest, and it stays in its bounds. `caps` tells
+-- a cap limit from a floor limit. Assumes nothing.
 use mathlib.Core.Path.{_≡_}
 use mathlib.Core.Bool.{Bool, true, false}
-use mathlib.Core.List.{List, [], _∷_}
-use Prim.Native.Nat.{ℕ, suc, _*_, _^_, _≤_, _<_}
-use native.Mathlib.Nat.{le-trans, mul-le-mul, mul-le-mul-left, pow-le-pow-right, two-pow-succ}
+use Prim.Native.Nat.{ℕ, suc, _*_, _≤_}
+use native.Mathlib.Nat.{mul-le-mul-left}
 use native.Mathlib.Omega.{arith}
-use lib.IntN.{ℤ, pos, negsuc, negℤ, natAbs, _*ℤ_}
-use lib.ListN.{length}
+use lib.IntN.{ℤ, pos, negsuc, natAbs, _*ℤ_}
 use lib.Signed.{_≤ℤ_, leZ}
 use Rattle.laws.specs.Base.{pick}
 use Rattle.laws.proofs.Integers.{integers, parts, abs-mul, le-order}
 use Rattle.laws.proofs.Orders.{times-mono}
 use Rattle.pricing.specs.Rounding.{nearest, rounded, Nearest}
-use Rattle.pricing.specs.Carrying.{carried, Factor, along, Factors}
-use Rattle.pricing.proofs.Roundings.{round-law, round-only, round-size, round-mono, round-neg, nearest-size, nearest-least}
+use Rattle.pricing.specs.Carrying.{carried, Factor}
+use Rattle.pricing.proofs.Roundings.{round-law, round-only, round-size, round-mono, round-neg, nearest-least}
 
 -- ---- the order is kept
 pub carried-mono : (caps : Bool) (f : ℕ) (x y : ℤ) → leZ x y ≡ true → leZ (carried caps f x) (carried caps f y) ≡ true
@@ -45,20 +43,13 @@ carried-size true f x ok =
 carried-size false f x ok =
     round-size (x *ℤ pos f) 10000 (2 * natAbs x) (omega arith) (omega (arith, abs-mul x (pos f), mul-le-mul-left (natAbs x) (ok .most)))
 
--- a cap limit stays at least a cent, and at most what it was
+-- a cap limit stays at least 1, of whatever unit it is in
 pub cap-least : (f : ℕ) (x : ℤ) → Factor f → pos 1 ≤ℤ x → pos 1 ≤ℤ carried true f x
 unfolding carried rounded
 cap-least f (pos m) ok h = le-order (pos 1) (pos (nearest (m * 10000) f)) (omega (integers, nearest-least (m * 10000) f 1 (omega arith) (omega integers)))
 cap-least f (negsuc m) ok h = absurd (omega integers)
 
-pub cap-most : (f : ℕ) (x : ℤ) → Factor f → pos 1 ≤ℤ x → carried true f x ≤ℤ x
-unfolding carried rounded
-cap-most f (pos m) ok h =
-    le-order (pos (nearest (m * 10000) f)) (pos m)
-    (omega (arith, nearest-size (m * 10000) f m (omega arith) (omega (arith, mul-le-mul-left m (ok .least)))))
-cap-most f (negsuc m) ok h = absurd (omega integers)
-
--- a floor limit below 0 stays at most what it was, and so at most a cent below 0
+-- a floor limit below 0 stays at most what it was
 pub floor-most : (f : ℕ) (x : ℤ) → Factor f → x ≤ℤ negsuc 0 → carried false f x ≤ℤ x
 unfolding carried
 floor-most f (pos m) ok h = absurd (omega integers)
@@ -66,41 +57,7 @@ floor-most f (negsuc m) ok h =
     let q = nearest-least (suc m * f) 10000 (suc m) (omega arith) (omega (arith, mul-le-mul-left (suc m) (ok .least))) in
     rw (round-neg (suc m * f) 10000 (omega arith)) (le-order _ _ (simp parts (omega arith)))
 
-pub floor-below : (f : ℕ) (x : ℤ) → Factor f → x ≤ℤ negsuc 0 → carried false f x ≤ℤ negsuc 0
-floor-below f x ok h = let a = floor-most f x ok h in omega integers
-
--- ---- over links in turn
-doubled : (caps : Bool) (f : ℕ) (x : ℤ) → Factor f → natAbs (carried caps f x) ≤ 2 * natAbs x
+-- by either at most doubled
+pub doubled : (caps : Bool) (f : ℕ) (x : ℤ) → Factor f → natAbs (carried caps f x) ≤ 2 * natAbs x
 doubled true f x ok = omega (arith, carried-size true f x ok)
 doubled false f x ok = carried-size false f x ok
-
-pub along-size : (caps : Bool) (l : List ℕ) (x : ℤ) → Factors l → natAbs (along caps l x) ≤ 2 ^ length l * natAbs x
-unfolding along
-along-size caps [] x ok = omega arith
-along-size caps (f ∷ l) x ok =
-    rw (two-pow-succ (length l))
-    (le-trans (along-size caps l (carried caps f x) (ok .1))
-    (le-trans (mul-le-mul-left (2 ^ length l) (doubled caps f x (ok .0))) (omega arith)))
-
--- over at most seven links it fits 32 bits
-pub along-fits : (caps : Bool) (l : List ℕ) (x : ℤ) → Factors l → length l ≤ 7 → natAbs x ≤ 10000000 → natAbs (along caps l x) ≤ 1280000000
-along-fits caps l x ok seven small =
-    let two : 0 < 2 = omega arith in
-    omega (arith, along-size caps l x ok, mul-le-mul (pow-le-pow-right two seven) small)
-
--- a cap limit stays between a cent and its source, and a floor limit at most its source
-pub along-cap : (l : List ℕ) (x : ℤ) → Factors l → pos 1 ≤ℤ x → (pos 1 ≤ℤ along true l x) × (along true l x ≤ℤ x)
-unfolding along
-along-cap [] x ok h = (h, le-order x x (omega arith))
-along-cap (f ∷ l) x ok h =
-    let r = along-cap l (carried true f x) (ok .1) (cap-least f x (ok .0) h) in
-    let a = cap-most f x (ok .0) h in
-    (r .0, omega (integers, r .1))
-
-pub along-floor : (l : List ℕ) (x : ℤ) → Factors l → x ≤ℤ negsuc 0 → (along false l x ≤ℤ negsuc 0) × (along false l x ≤ℤ x)
-unfolding along
-along-floor [] x ok h = (h, le-order x x (omega arith))
-along-floor (f ∷ l) x ok h =
-    let r = along-floor l (carried false f x) (ok .1) (floor-below f x (ok .0) h) in
-    let a = floor-most f x (ok .0) h in
-    (r .0, omega (integers, r .1))

@@ -1,4 +1,5 @@
 pub mod Roundings
 pub mod Carries
+pub mod Passings
 pub mod Indexes
 pub mod Cases

@@ -8,7 +8,7 @@ use lib.IntN.{ℤ, pos, negsuc, natAbs}
 use lib.ListN.{getD}
 use lib.Signed.{leZ, _≤ℤ_}
 use Rattle.laws.specs.Base.{pick, minZ, maxZ}
-use Rattle.laws.proofs.Integers.{integers, up, dn}
+use Rattle.laws.proofs.Integers.{integers, up, dn, le-order}
 use Rattle.laws.proofs.Tests.{and-left, and-right}
 use Rattle.pricing.specs.Holding.{held, isEnergy, inRange}
 use Rattle.routes.specs.declared.Limit.{Limit}
@@ -39,8 +39,8 @@ module _ (n : ℕ) where
   pick-within true x y v w = v
   pick-within false x y v w = w
 
-  -- at most a number above 0, at least one below: what is within stays so
-  most-within : (x c : ℤ) → pos 1 ≤ℤ c → Within n x → Within n (minZ x c)
+  -- at most a number that is not below 0, at least one that is: what is within stays so
+  most-within : (x c : ℤ) → pos 0 ≤ℤ c → Within n x → Within n (minZ x c)
   unfolding minZ
   most-within x c h w = go (leZ x c) refl
     where
@@ -98,7 +98,7 @@ module _ (t : Terms) (ok : Terms-ok t) where
   capped-within marks region market price w =
       pick-within 10000000 (isEnergy market) _ _
       (pick-within 10000000 (administered marks region 0) _ price (held-within 10000000 price (t .floor) (t .cap) (source-within false) (source-within true)) w)
-      (pick-within 10000000 (anyAdministered t marks region) _ price (most-within 10000000 price (t .cap) (cap-least t ok) w) w)
+      (pick-within 10000000 (anyAdministered t marks region) _ price (most-within 10000000 price (t .cap) (let c = cap-least t ok in le-order _ _ (omega integers)) w) w)
 
   -- what is published where the entry price is used and in range, or where it is not used
   pub bounded : (marks : List ℕ) (e : Entry) → Links-ok t (e .flows) (e .factors) → (region market : ℕ) → region < t .regions

@@ -21,27 +21,42 @@ use Rattle.pricing.specs.Holding.{limitsOk}
 use Rattle.pricing.specs.Carrying.{Factor}
 use Rattle.routes.specs.declared.Limit.{Limit}
 use Rattle.routes.specs.declared.Limit.the-variants.{Open, Bound}
+use Rattle.pricing.specs.Passing.{fine, cents}
+use Rattle.pricing.proofs.Passings.{cents-size, fine-size, fine-above, fine-below}
 use Rattle.routes.specs.Limits.{own}
 use Rattle.routes.specs.Links.{powerOf, powersOf}
 use Rattle.routes.specs.Routes.{limitOf}
 use Rattle.routes.specs.Search.{Linked, Sized, Searched}
 use Rattle.routes.proofs.Routes.{limit-same}
 use Rattle.routes.proofs.Links.{Child, power-table, power-linked}
+use Rattle.routes.proofs.Limits.{open-not, bound-same}
 use Rattle.routes.proofs.Sizes.{Kept, limit-kept, limit-small, cap-above as cap-kept, floor-below as floor-kept}
 use Rattle.publishing.specs.declared.Terms.{Terms}
 use Rattle.publishing.specs.Entry.{Offer, Terms-ok, Links-ok}
-use Rattle.publishing.specs.Bounds.{hasLimit, limit, atMost, atLeast}
-use Rattle.publishing.specs.Working.{boundOf, Small, sources, boundsOf}
+use Rattle.publishing.specs.Bounds.{hasLimit, inCents, limit, atMost, atLeast}
+use Rattle.publishing.specs.Working.{boundOf, Small, Fine, sources, boundsOf}
 
--- ---- what the code finds of a limit
-pub small-at : {l : Limit} {z : ℤ} → l ≡ Bound z → Small l → natAbs z ≤ 1280000000
-small-at e s = subst Small e s
+-- ---- what the code finds of a limit in ten-thousandths of a cent
+pub fine-at : {l : Limit} {z : ℤ} → l ≡ Bound z → Fine l → natAbs z ≤ 12800000000000
+fine-at e s = subst Fine e s
 
-pub bound-open : (caps : Bool) {l : Limit} → l ≡ Open → pick caps (pos 2147483647) (negsuc 2147483647) ≡ boundOf caps l
+pub bound-open : (caps : Bool) {l : Limit} → l ≡ Open → pick caps (pos 2147483647) (negsuc 2147483647) ≡ boundOf caps (inCents l)
+unfolding inCents
 bound-open caps e = rw e
 
-pub bound-at : (caps : Bool) {l : Limit} {z : ℤ} → l ≡ Bound z → z ≡ boundOf caps l
+pub bound-at : (caps : Bool) {l : Limit} {z : ℤ} → l ≡ Bound z → cents z ≡ boundOf caps (inCents l)
+unfolding inCents
 bound-at caps e = rw e
+
+pub fine-small : (l : Limit) → Fine l → Small (inCents l)
+unfolding inCents
+fine-small Open s = tt
+fine-small (Bound z) s = cents-size z 1280000000 (omega (arith, s))
+
+pub in-cents-at : (l : Limit) {q : ℤ} → inCents l ≡ Bound q → (z : ℤ) × (l ≡ Bound z) × (q ≡ cents z)
+unfolding inCents
+in-cents-at Open e = absurd (open-not e)
+in-cents-at (Bound z) e = (z, refl, sym (bound-same e))
 
 -- ---- one of two 32-bit numbers
 pub pick-fits : (b : Bool) {x y : ℤ} → SFits w32 x → SFits w32 y → SFits w32 (pick b x y)
@@ -122,7 +137,7 @@ child-linked t flows factors links r i c = links .linked r i (λ e. c (parent-re
 
 -- the limit of a region where the regions that pass a test are sources
 abbrev pub limitBy : Bool → Terms → List ℤ → List ℕ → (ℕ → Bool) → ℕ → Limit
-limitBy caps t flows factors test = limitOf caps (powerOf (t .parents) flows factors) (λ x. pick (test x) (Bound (source caps t)) Open) (t .regions)
+limitBy caps t flows factors test = limitOf caps (powerOf (t .parents) flows factors) (λ x. pick (test x) (Bound (fine (source caps t))) Open) (t .regions)
 
 pub limit-by : (caps : Bool) (t : Terms) (flows : List ℤ) (factors : List ℕ) (test test′ : ℕ → Bool) → ((x : ℕ) → x < t .regions → test x ≡ test′ x)
     → (x : ℕ) → x < t .regions → limitBy caps t flows factors test x ≡ limitBy caps t flows factors test′ x
@@ -138,17 +153,17 @@ module _ (t : Terms) (ok : Terms-ok t) (flows : List ℤ) (factors : List ℕ) (
   linked = power-linked (t .parents) flows factors (t .regions) (ok .regions .1) (child-linked t flows factors links)
 
   module _ (test : ℕ → Bool) (x : ℕ) (here : x < t .regions) where
-    -- a limit that a 32-bit number holds
-    pub small : (caps : Bool) → Small (limitBy caps t flows factors test x)
+    -- a limit that a 32-bit number holds in cents
+    pub small : (caps : Bool) → Fine (limitBy caps t flows factors test x)
     small caps = go (limitBy caps t flows factors test x) refl
       where
-        sized : (b : Bool) → Sized 10000000 (pick b (Bound (source caps t)) Open)
-        sized true = source-small t ok caps
+        sized : (b : Bool) → Sized 100000000000 (pick b (Bound (fine (source caps t))) Open)
+        sized true = fine-size (source caps t) 10000000 (source-small t ok caps)
         sized false = tt
 
-        go : (l : Limit) → limitBy caps t flows factors test x ≡ l → Small l
+        go : (l : Limit) → limitBy caps t flows factors test x ≡ l → Fine l
         go Open e = tt
-        go (Bound z) e = limit-small (powerOf (t .parents) flows factors) (t .regions) (ok .regions .1) linked x here caps _ (λ y i. sized (test y)) e
+        go (Bound z) e = limit-small (powerOf (t .parents) flows factors) (t .regions) (ok .regions .1) linked x here caps 100000000000 _ (λ y i. sized (test y)) e
 
     -- without a source no limit travels
     pub unbound : (caps : Bool) → ((y : ℕ) → y < t .regions → test y ≡ false) → limitBy caps t flows factors test x ≡ Open
@@ -160,7 +175,7 @@ module _ (t : Terms) (ok : Terms-ok t) (flows : List ℤ) (factors : List ℕ) (
         is-open Open k = refl
         is-open (Bound z) k = absurd k
 
-        go : (b : Bool) → b ≡ false → Kept (λ z. ⊥) (pick b (Bound (source caps t)) Open)
+        go : (b : Bool) → b ≡ false → Kept (λ z. ⊥) (pick b (Bound (fine (source caps t))) Open)
         go true e = absurd (subst T e tt)
         go false e = tt
 
@@ -168,16 +183,16 @@ module _ (t : Terms) (ok : Terms-ok t) (flows : List ℤ) (factors : List ℕ) (
     pub cap-above : {z : ℤ} → limitBy true t flows factors test x ≡ Bound z → pos 1 ≤ℤ z
     cap-above e =
         cap-kept (powerOf (t .parents) flows factors) (t .regions) (ok .regions .1) linked x here _
-        (λ y i. source-kept (λ z. pos 1 ≤ℤ z) (t .cap) (cap-least t ok) (test y)) e
+        (λ y i. source-kept (λ z. pos 1 ≤ℤ z) (fine (t .cap)) (fine-above (t .cap) (cap-least t ok)) (test y)) e
 
-    pub floor-below : {z : ℤ} → limitBy false t flows factors test x ≡ Bound z → z ≤ℤ negsuc 0
+    pub floor-below : {z : ℤ} → limitBy false t flows factors test x ≡ Bound z → z ≤ℤ negsuc 9999
     floor-below e =
-        floor-kept (powerOf (t .parents) flows factors) (t .regions) (ok .regions .1) linked x here _
-        (λ y i. source-kept (λ z. z ≤ℤ negsuc 0) (t .floor) (floor-most t ok) (test y)) e
+        floor-kept (powerOf (t .parents) flows factors) (t .regions) (ok .regions .1) linked x here 9999 _
+        (λ y i. source-kept (λ z. z ≤ℤ negsuc 9999) (fine (t .floor)) (fine-below (t .floor) (floor-most t ok)) (test y)) e
 
 -- ---- the search, by the table of powers
 module _ (t : Terms) (ok : Terms-ok t) (flows : List ℤ) (factors : List ℕ) (links : Links-ok t flows factors)
-    {powers : List ℕ} (e : powers ≡ powersOf (t .parents) flows factors) (caps : Bool) {bound : ℤ} (b : bound ≡ source caps t) where
+    {powers : List ℕ} (e : powers ≡ powersOf (t .parents) flows factors) (caps : Bool) {bound : ℤ} (b : bound ≡ fine (source caps t)) where
   power-at : (x y : ℕ) → x < t .regions → y < t .regions → getD powers (8 * x + y) 0 ≡ powerOf (t .parents) flows factors x y
   power-at x y i j =
       let n = links .flows-size in
@@ -187,7 +202,7 @@ module _ (t : Terms) (ok : Terms-ok t) (flows : List ℤ) (factors : List ℕ) (
   searched x h = record {
     regions = ok .regions .1;
     linked = λ x y i j. rw (power-at x y i j) (linked t ok flows factors links x y i j);
-    small = rw b (omega (arith, source-small t ok caps));
+    small = rw b (fine-size (source caps t) 10000000 (source-small t ok caps));
     here = h;
     few = omega arith;
   }
@@ -204,13 +219,13 @@ none-passes n test e k h = by-test (test k) (λ q. absurd (true-is (sym e ∙ at
 module _ (caps : Bool) (t : Terms) (ok : Terms-ok t) (flows : List ℤ) (factors : List ℕ) where
   pub all-open : Links-ok t flows factors → (hits : List Bool) → anyBelow 8 (λ x. getD hits x false) ≡ false
       → replicate 8 (boundOf caps Open) ≡ boundsOf caps t hits flows factors
-  unfolding run
+  unfolding run inCents
   all-open links hits none = tabulate-same 8 _ _ (λ k h. go k (ltb k (t .regions)) refl)
     where
       test : ℕ → Bool
       test x = getD hits x false
 
-      go : (k : ℕ) (b : Bool) → ltb k (t .regions) ≡ b → boundOf caps Open ≡ pick b (boundOf caps (limitBy caps t flows factors test k)) (boundOf caps Open)
+      go : (k : ℕ) (b : Bool) → ltb k (t .regions) ≡ b → boundOf caps Open ≡ pick b (boundOf caps (inCents (limitBy caps t flows factors test k))) (boundOf caps Open)
       go k true e = rw (unbound t ok flows factors links test k (ltb-true k (t .regions) e) caps (λ y i. none-passes 8 test none y (omega (arith, ok .regions .1))))
       go k false e = refl
 
@@ -219,7 +234,7 @@ module _ (caps : Bool) (t : Terms) (ok : Terms-ok t) (flows : List ℤ) (factors
   unfolding limit
   bound-is marks o r h =
       getD-tabulate _ 8 r (pos 0) (omega (arith, ok .regions .1))
-      ∙ rw (lt-ltb r (t .regions) h) (ap (boundOf caps) (limit-by caps t flows factors (λ x. getD (sources caps t marks o) x false) (hasLimit caps t marks o) source-at r h))
+      ∙ rw (lt-ltb r (t .regions) h) (ap (λ (l : Limit). boundOf caps (inCents l)) (limit-by caps t flows factors (λ x. getD (sources caps t marks o) x false) (hasLimit caps t marks o) source-at r h))
     where
       source-at : (x : ℕ) → x < t .regions → getD (sources caps t marks o) x false ≡ hasLimit caps t marks o x
       source-at x i = getD-tabulate _ 8 x false (omega (arith, ok .regions .1)) ∙ rw (lt-ltb x (t .regions) i)

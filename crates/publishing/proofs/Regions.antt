@@ -18,7 +18,7 @@ use Rattle.publishing.specs.Capped.{administered, anyAdministered, cappe
 use Rattle.publishing.specs.Bounds.{hasLimit, limit}
 use Rattle.publishing.specs.Published.{published, publishedAt, changedAt}
 use Rattle.publishing.specs.Working.{boundOf, Small, publishedBy, regionPrice, regionPrices, regionCount}
-use Rattle.publishing.proofs.Limits.{pick-fits, min-fits, max-fits, most-by, least-by, bound-fits, source-fits, small}
+use Rattle.publishing.proofs.Limits.{pick-fits, min-fits, max-fits, most-by, least-by, bound-fits, source-fits, limitBy, fine-small, small}
 
 -- ---- prices stay 32-bit numbers
 pub held-fits : {x low high : ℤ} → SFits w32 x → SFits w32 low → SFits w32 high → SFits w32 (held x low high)
@@ -37,7 +37,9 @@ module _ (t : Terms) (ok : Terms-ok t) (marks : List ℕ) (e : Entry) (links : L
     (region : ℕ) (here : region < t .regions) (fits : (m : ℕ) → m < t .markets → SFits w32 (effective t (e .offer) region m)) where
   limit-small : (caps : Bool) → Small (limit caps t marks e region)
   unfolding limit
-  limit-small caps = small t ok (e .flows) (e .factors) links (hasLimit caps t marks (e .offer)) region here caps
+  limit-small caps =
+      let test = hasLimit caps t marks (e .offer) in
+      fine-small (limitBy caps t (e .flows) (e .factors) test region) (small t ok (e .flows) (e .factors) links test region here caps)
 
   price-is : (market : ℕ) → market < t .markets
       → regionPrice t marks (e .offer) (boundOf true (limit true t marks e region)) (boundOf false (limit false t marks e region)) region market ≡ published t marks e region market

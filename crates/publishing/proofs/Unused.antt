@@ -1,5 +1,5 @@
 -- "Unused entry and schedule numbers are not looked at": two entries that agree where they are used publish the same. Assumes nothing.
-use mathlib.Core.Path.{_≡_, refl}
+use mathlib.Core.Path.{_≡_, refl, ap}
 use mathlib.Core.Bool.{Bool, true, false}
 use mathlib.Core.List.{List}
 use Prim.Native.Nat.{ℕ, _*_, _/_, _%_, _<_}
@@ -14,7 +14,7 @@ use Rattle.routes.proofs.Routes.{limit-same}
 use Rattle.publishing.specs.declared.Terms.{Terms}
 use Rattle.publishing.specs.Entry.{Entry, Terms-ok, flat, schedulePlace}
 use Rattle.publishing.specs.Effective.{isMarked, scheduled, effective}
-use Rattle.publishing.specs.Bounds.{hasLimit, limit}
+use Rattle.publishing.specs.Bounds.{hasLimit, inCents, limit}
 use Rattle.publishing.specs.Published.{published, tableOf, countOf}
 
 -- what is used: the kind and the marks; prices of unmarked regions, and the schedule's numbers at this interval's place of marked ones;
@@ -50,9 +50,9 @@ module _ (t : Terms) (ok : Terms-ok t) (marks : List ℕ) (a b : Entry) (same : 
   bound-same : (caps : Bool) (r : ℕ) → r < t .regions → limit caps t marks a r ≡ limit caps t marks b r
   unfolding limit
   bound-same caps r h =
-      limit-same caps _ _ _ _ (t .regions)
+      ap inCents (limit-same caps _ _ _ _ (t .regions)
       (power-same (t .parents) (t .regions) (omega (arith, ok .regions .1)) (a .flows) (b .flows) (a .factors) (b .factors) (same .linked))
-      (λ x i. rw (source-same caps x i)) r h
+      (λ x i. rw (source-same caps x i)) r h)
 
   pub published-same : (r m : ℕ) → r < t .regions → m < t .markets → published t marks a r m ≡ published t marks b r m
   unfolding published

@@ -10,6 +10,7 @@ use Rattle.laws.specs.Lists.{tabulate, countBelow}
 use Rattle.pricing.specs.Holding.{isEnergy}
 use Rattle.routes.specs.declared.Limit.{Limit}
 use Rattle.routes.specs.declared.Limit.the-variants.{Open, Bound}
+use Rattle.pricing.specs.Passing.{fine}
 use Rattle.routes.specs.Limits.{own}
 use Rattle.routes.specs.Links.{powerOf}
 use Rattle.routes.specs.Routes.{limitOf}
@@ -17,7 +18,7 @@ use Rattle.publishing.specs.declared.Terms.{Terms}
 use Rattle.publishing.specs.Entry.{Offer}
 use Rattle.publishing.specs.Effective.{effective}
 use Rattle.publishing.specs.Capped.{administered, anyAdministered, cappedBy}
-use Rattle.publishing.specs.Bounds.{hasLimit}
+use Rattle.publishing.specs.Bounds.{hasLimit, inCents}
 use Rattle.publishing.specs.Published.{differ}
 
 -- a limit as a number that binds a 32-bit price in the same way: no limit is the widest
@@ -25,10 +26,15 @@ abbrev pub boundOf : Bool → Limit → ℤ
 boundOf caps Open = pick caps (pos 2147483647) (negsuc 2147483647)
 boundOf caps (Bound z) = z
 
--- a limit that a 32-bit number holds: over seven links a floor limit has at most 10,000,000 × 2^7
+-- a limit that a 32-bit number holds: over seven links a floor limit has at most 10,000,000 × 2^7 cents
 abbrev pub Small : Limit → Type 0
 Small Open = Unit {0}
 Small (Bound z) = natAbs z ≤ 1280000000
+
+-- the same of a limit in ten-thousandths of a cent
+abbrev pub Fine : Limit → Type 0
+Fine Open = Unit {0}
+Fine (Bound z) = natAbs z ≤ 12800000000000
 
 -- the regions that have a limit of their own, of eight
 abbrev pub sources : Bool → Terms → List ℕ → Offer → List Bool
@@ -38,7 +44,7 @@ sources caps t marks o = tabulate 8 (λ r. pick (ltb r (t .regions)) (hasLimit c
 abbrev pub boundsOf : Bool → Terms → List Bool → List ℤ → List ℕ → List ℤ
 boundsOf caps t sources flows factors =
     tabulate 8 (λ r. pick (ltb r (t .regions))
-    (boundOf caps (limitOf caps (powerOf (t .parents) flows factors) (own sources (pick caps (t .cap) (t .floor))) (t .regions) r))
+    (boundOf caps (inCents (limitOf caps (powerOf (t .parents) flows factors) (own sources (fine (pick caps (t .cap) (t .floor)))) (t .regions) r)))
     (boundOf caps Open))
 
 -- steps 2 and 4 at a market, by its region's bounds

@@ -9,12 +9,13 @@ ghost use mir.Syntax.{w32};
 ghost use mir.Val.{SFits};
 ghost use Rattle.laws.specs.Base.{pick, minZ};
 ghost use Rattle.laws.specs.Lists.{anyBelow};
+ghost use Rattle.pricing.specs.Passing.{fine};
 ghost use Rattle.publishing.specs.Entry.{offerOf, entryOf, Terms-ok, Offer-ok, Links-ok};
 ghost use Rattle.publishing.specs.Effective.{scheduled, effective};
 ghost use Rattle.publishing.specs.Capped.{administered, anyAdministered, cappedBy};
-ghost use Rattle.publishing.specs.Bounds.{hasLimit};
+ghost use Rattle.publishing.specs.Bounds.{hasLimit, inCents};
 ghost use Rattle.publishing.specs.Published.{tableOf, countOf};
-ghost use Rattle.publishing.specs.Working.{Small, boundOf, sources, boundsOf, publishedBy, regionPrices, regionCount};
+ghost use Rattle.publishing.specs.Working.{Fine, boundOf, sources, boundsOf, publishedBy, regionPrices, regionCount};
 
 // What the book brings to an interval: its shape, its limits and the position. `markets` is M, services and energy.
 pub struct Terms {
@@ -171,14 +172,25 @@ fn any_source(sources: [bool; 8]) -> bool
     any
 }
 
-// A limit as a number that binds a price in the same way.
+// A limit, in ten-thousandths of a cent, as a number of cents that binds a price in the same way.
 fn bound_of(caps: bool, limit: Limit) -> i32
-    requires { ⌜ Small limit ⌝ }
-    ensures { λ r. ⌜ r ≡ boundOf caps limit ⌝ }
+    requires { ⌜ Fine limit ⌝ }
+    ensures { λ r. ⌜ r ≡ boundOf caps (inCents limit) ⌝ }
 {
     match limit {
         Limit::Open => if caps { 2147483647 } else { -2147483648 },
-        Limit::Bound(z) => z as i32,
+        Limit::Bound(z) => pricing::carrying::cents(z) as i32,
+    }
+}
+
+// The limit of a source, in ten-thousandths of a cent.
+fn source_limit(caps: bool, cap: i32, floor: i32) -> i64
+    ensures { λ r. ⌜ r ≡ fine (pick caps cap floor) ⌝ }
+{
+    if caps {
+        pricing::carrying::fine(cap)
+    } else {
+        pricing::carrying::fine(floor)
     }
 }
 
@@ -194,11 +206,7 @@ fn bounds(caps: bool, terms: Terms, sources: [bool; 8], flows: &[i32], factors: 
     }
     let parents = terms.parents;
     let powers = routes::powers(parents, flows, factors);
-    let source = if caps {
-        terms.cap as i64
-    } else {
-        terms.floor as i64
-    };
+    let source = source_limit(caps, terms.cap, terms.floor);
     let mut r: usize = 0;
     while r < terms.regions {
         all[r] = bound_of(

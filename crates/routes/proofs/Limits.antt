@@ -1,5 +1,5 @@
 -- Laws of limits and of the search for one, a law for each way through the code. Assumes nothing.
-use mathlib.Core.Path.{_≡_, refl, ap, _∙_}
+use mathlib.Core.Path.{_≡_, refl, sym, ap, subst, _∙_}
 use mathlib.Core.Bool.{Bool, true, false, Bool·beq}
 use mathlib.Core.List.{List}
 use Prim.Native.Nat.{ℕ, zero, suc, _+_, _-_, _<_}
@@ -16,6 +16,21 @@ use Rattle.routes.specs.declared.Limit.the-variants.{Open, Bound}
 use Rattle.routes.specs.Limits.{tighter, over}
 use Rattle.routes.specs.Links.{step}
 use Rattle.routes.specs.Search.{tightest, limitFrom}
+
+-- ---- no limit and a limit are two things, and a limit is its number
+abbrev is-bound : Limit → Type 0
+is-bound Open = ⊥
+is-bound (Bound z) = Unit {0}
+
+pub open-not : {z : ℤ} → Open ≡ Bound z → ⊥
+open-not e = subst is-bound (sym e) tt
+
+abbrev number-in : ℤ → Limit → ℤ
+number-in d Open = d
+number-in d (Bound z) = z
+
+pub bound-same : {y z : ℤ} → Bound y ≡ Bound z → y ≡ z
+bound-same {y} e = ap (number-in y) e
 
 -- ---- the tighter of two
 module _ (caps : Bool) {a b : Limit} where

@@ -3,20 +3,17 @@ use mathlib.Core.Path.{_≡_, refl, ap, subst}
 use mathlib.Core.Bool.{Bool, true, false}
 use mathlib.Core.List.{List}
 use Prim.Native.Nat.{ℕ, zero, suc, _-_, _*_, _^_, _≤_, _<_}
-use native.Mathlib.Nat.{le-trans, le-div-iff-mul-le, mul-le-mul, mul-le-mul-left, pow-suc, pow-le-pow-right}
+use native.Mathlib.Nat.{le-trans, mul-le-mul-left, pow-suc, pow-le-pow-right}
 use native.Mathlib.Omega.{arith}
 use lib.Dec.{eqb}
-use lib.IntN.{ℤ, pos, negsuc, negℤ, natAbs, _*ℤ_}
+use lib.IntN.{ℤ, pos, negsuc, natAbs}
 use lib.ListN.{getD, set}
-use lib.Signed.{_≤ℤ_, _<ℤ_, leZ}
-use mir.Syntax.{w32}
-use mir.Val.{SFits}
+use lib.Signed.{_≤ℤ_, leZ}
 use borrow.Author.Tests.{eqb-false}
 use Rattle.laws.specs.Base.{pick, minZ, maxZ}
-use Rattle.laws.proofs.Integers.{integers, parts, abs-mul, abs-fits, le-order}
-use Rattle.pricing.specs.Rounding.{nearest, rounded}
+use Rattle.laws.proofs.Integers.{integers, le-order}
 use Rattle.pricing.specs.Carrying.{carried, Factor}
-use Rattle.pricing.proofs.Roundings.{round-size}
+use Rattle.pricing.proofs.Carries.{doubled, cap-least, floor-most}
 use Rattle.routes.specs.declared.Limit.{Limit}
 use Rattle.routes.specs.declared.Limit.the-variants.{Open, Bound}
 use Rattle.routes.specs.Limits.{tighter, over, own}
@@ -24,32 +21,6 @@ use Rattle.routes.specs.Links.{step}
 use Rattle.routes.specs.Routes.{unseen, limitOf}
 use Rattle.routes.specs.Search.{tightest, limitFrom, Sized, Linked}
 use Rattle.routes.proofs.Routes.{limit-routes}
-
--- ---- over one link
-pub carried-size : (caps : Bool) (f : ℕ) (z : ℤ) (n : ℕ) → Factor f → natAbs z ≤ n → natAbs (carried caps f z) ≤ n * 2
-unfolding carried
-carried-size true f z n l p = round-size (z *ℤ pos 10000) f (n * 2) (omega (arith, l .least)) (omega (arith, abs-mul z (pos 10000), mul-le-mul p (l .least)))
-carried-size false f z n l p = round-size (z *ℤ pos f) 10000 (n * 2) (omega arith) (omega (arith, abs-mul z (pos f), mul-le-mul p (l .most)))
-
--- half a divisor and more rounds to 1 at least
-nearest-one : (m d : ℕ) → 0 < d → d ≤ 2 * m → 1 ≤ nearest m d
-unfolding nearest
-nearest-one m d h l = let two : 0 < 2 * d = omega arith in le-div-iff-mul-le two .1 (omega arith)
-
-pub carried-above : (f : ℕ) (z : ℤ) → Factor f → pos 1 ≤ℤ z → pos 1 ≤ℤ carried true f z
-unfolding carried rounded
-carried-above f (pos a) l h = le-order _ _ (omega (arith, nearest-one (a * 10000) f (omega (arith, l .least)) (omega (integers, l .most))))
-carried-above f (negsuc a) l h = absurd (omega integers)
-
-rounded-below : (k d : ℕ) → 0 < d → d ≤ k → rounded (negℤ (pos k)) d ≤ℤ negsuc 0
-unfolding rounded
-rounded-below zero d h l = absurd (omega arith)
-rounded-below (suc k) d h l = le-order (negℤ (pos (nearest (suc k) d))) (negsuc 0) (simp parts (omega (arith, nearest-one (suc k) d h (omega arith))))
-
-pub carried-below : (f : ℕ) (z : ℤ) → Factor f → z ≤ℤ negsuc 0 → carried false f z ≤ℤ negsuc 0
-unfolding carried
-carried-below f (pos a) l h = absurd (omega integers)
-carried-below f (negsuc a) l h = let one : 1 ≤ suc a = omega arith in rounded-below (suc a * f) 10000 (omega arith) (omega (arith, mul-le-mul one (l .least)))
 
 -- ---- what holds of a limit's number, where there is one
 abbrev pub Kept : (ℤ → Type 0) → Limit → Type 0
@@ -139,7 +110,7 @@ kept-sized b d (Bound z) h s = le-trans s h
 module _ (caps : Bool) (power : ℕ → ℕ → ℕ) (own : ℕ → Limit) (R : ℕ) (linked : (x y : ℕ) → x < R → y < R → Linked (power x y))
     (b : ℕ) (owns : (x : ℕ) → x < R → Sized b (own x)) where
   doubles : (n : ℕ) (f : ℕ) (z : ℤ) → Factor f → natAbs z ≤ b * 2 ^ n → natAbs (carried caps f z) ≤ b * 2 ^ suc n
-  doubles n f z l h = omega (arith, carried-size caps f z (b * 2 ^ n) l h, pow-suc 2 n, ap (λ (p : ℕ). b * p) (pow-suc 2 n))
+  doubles n f z l h = omega (arith, doubled caps f z l, pow-suc 2 n, ap (λ (p : ℕ). b * p) (pow-suc 2 n))
 
   starts : (n x : ℕ) → x < R → Kept (λ z. natAbs z ≤ b * 2 ^ n) (own x)
   starts n x i = sized-kept b (b * 2 ^ n) (own x) (omega (arith, mul-le-mul-left b (pow-le-pow-right {n = 2} (omega arith) {i = 0} {j = n} (omega arith)))) (owns x i)
@@ -163,27 +134,18 @@ search-small caps power hits bound R k h left seen x l i =
 
 -- ---- the limits over every route that bind prices
 module _ (power : ℕ → ℕ → ℕ) (R : ℕ) (few : R ≤ 8) (linked : (x y : ℕ) → x < R → y < R → Linked (power x y)) (x : ℕ) (here : x < R) where
-  -- where each own limit is of at most 10,000,000 cents, a limit over seven links too fits a signed 32-bit number
-  pub limit-small : (caps : Bool) (own : ℕ → Limit) → ((y : ℕ) → y < R → Sized 10000000 (own y)) → {z : ℤ} → limitOf caps power own R x ≡ Bound z → natAbs z ≤ 1280000000
-  limit-small caps own h e =
-      sized-at e (sized-more (limitOf caps power own R x) (omega (arith, mul-le-mul-left 10000000 (pow-le-pow-right {n = 2} (omega arith) {i = R - 1} {j = 7} (omega arith))))
-      (limit-sized caps power own R linked 10000000 h x here))
+  -- seven links at most: 2^7 times as much as the own limits
+  pub limit-small : (caps : Bool) (b : ℕ) (own : ℕ → Limit) → ((y : ℕ) → y < R → Sized b (own y)) → {z : ℤ} → limitOf caps power own R x ≡ Bound z → natAbs z ≤ b * 128
+  limit-small caps b own h e =
+      sized-at e (sized-more (limitOf caps power own R x) (omega (arith, mul-le-mul-left b (pow-le-pow-right {n = 2} (omega arith) {i = R - 1} {j = 7} (omega arith))))
+      (limit-sized caps power own R linked b h x here))
 
-  pub limit-fits : (caps : Bool) (own : ℕ → Limit) → ((y : ℕ) → y < R → Sized 10000000 (own y)) → {z : ℤ} → limitOf caps power own R x ≡ Bound z → SFits w32 z
-  limit-fits caps own h {z} e = abs-fits w32 z (omega (arith, limit-small caps own h e))
-
-  -- a cap limit stays above 0
+  -- a cap limit stays above 0, in the unit of the own limits
   pub cap-above : (own : ℕ → Limit) → ((y : ℕ) → y < R → Kept (λ z. pos 1 ≤ℤ z) (own y)) → {z : ℤ} → limitOf true power own R x ≡ Bound z → pos 1 ≤ℤ z
-  cap-above own h e = kept-at (λ z. pos 1 ≤ℤ z) e (limit-kept true power own R linked (λ n z. pos 1 ≤ℤ z) (λ n. carried-above) (λ n. h) x here)
+  cap-above own h e = kept-at (λ z. pos 1 ≤ℤ z) e (limit-kept true power own R linked (λ n z. pos 1 ≤ℤ z) (λ n. cap-least) (λ n. h) x here)
 
-  -- a floor limit stays below 0
-  pub floor-below : (own : ℕ → Limit) → ((y : ℕ) → y < R → Kept (λ z. z ≤ℤ negsuc 0) (own y)) → {z : ℤ} → limitOf false power own R x ≡ Bound z → z ≤ℤ negsuc 0
-  floor-below own h e = kept-at (λ z. z ≤ℤ negsuc 0) e (limit-kept false power own R linked (λ n z. z ≤ℤ negsuc 0) (λ n. carried-below) (λ n. h) x here)
-
-  -- so that they never cross
-  pub limits-apart : (hits hits′ : List Bool) (cap floor : ℤ) → pos 1 ≤ℤ cap → floor ≤ℤ negsuc 0 → {c f : ℤ}
-      → limitOf true power (own hits cap) R x ≡ Bound c → limitOf false power (own hits′ floor) R x ≡ Bound f → f <ℤ c
-  limits-apart hits hits′ cap floor h k {c} {f} p q =
-      let a = cap-above (own hits cap) (λ y j. own-kept (λ z. pos 1 ≤ℤ z) hits cap h y) p in
-      let b = floor-below (own hits′ floor) (λ y j. own-kept (λ z. z ≤ℤ negsuc 0) hits′ floor k y) q in
-      omega integers
+  -- a floor limit stays as far below 0 as the own limits are
+  pub floor-below : (n : ℕ) (own : ℕ → Limit) → ((y : ℕ) → y < R → Kept (λ z. z ≤ℤ negsuc n) (own y)) → {z : ℤ} → limitOf false power own R x ≡ Bound z → z ≤ℤ negsuc n
+  floor-below n own h e =
+      kept-at (λ z. z ≤ℤ negsuc n) e
+      (limit-kept false power own R linked (λ k z. z ≤ℤ negsuc n) (λ k f z l b. let a : z ≤ℤ negsuc 0 = le-order _ _ (omega integers) in let c = floor-most f z l a in le-order _ _ (omega integers)) (λ k. h) x here)

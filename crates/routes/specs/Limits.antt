@@ -1,5 +1,5 @@
--- Cap limits and floor limits. `caps` tells a cap limit (true) from a floor limit (false). Assumes nothing.
-use mathlib.Core.Bool.{Bool, true, false}
+-- Cap limits and floor limits, in ten-thousandths of a cent. `caps` tells a cap limit (true) from a floor limit (false). Assumes nothing.
+use mathlib.Core.Bool.{Bool, false}
 use mathlib.Core.List.{List}
 use Prim.Native.Nat.{ℕ}
 use lib.Dec.{eqb}

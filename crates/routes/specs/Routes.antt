@@ -10,8 +10,8 @@ use Rattle.routes.specs.declared.Limit.the-variants.{Open, Bound}
 use Rattle.routes.specs.Limits.{tighter, over}
 use Rattle.routes.specs.Links.{step}
 
--- a route from x is the list of the regions after x; the limit of the region at its end comes back over its links,
--- "Each link rounds", and "Limits travel on over any number of links, whether or not a price on the way changed"
+-- a route from x is the list of the regions after x; the limit of the region at its end comes back over its links, each of which
+-- rounds, in ten-thousandths of a cent, and "Limits travel on over any number of links, whether or not a price on the way changed"
 unfoldable pub along : Bool → (ℕ → ℕ → ℕ) → (ℕ → Limit) → ℕ → List ℕ → Limit
 along caps power own x [] = own x
 along caps power own x (y ∷ route) = over caps (step caps power x y) (along caps power own y route)

@@ -35,7 +35,7 @@ Sized b (Bound z) = natAbs z ≤ b
 abbrev pub Linked : ℕ → Type 0
 Linked factor = 0 < factor → Factor factor
 
--- what the search is given: a table of powers, the unit-free bound of a source (2026-04 carries ten-thousandths), a region
+-- what the search is given: a table of powers, the limit of a source in ten-thousandths of a cent, a region
 pub record Searched (powers : List ℕ) (R : ℕ) (bound : ℤ) (x left : ℕ) : Type 0 where
   pub regions : R ≤ 8
   pub linked : (x y : ℕ) → x < R → y < R → Linked (getD powers (8 * x + y) 0)

@@ -9,7 +9,7 @@ ghost use Rattle.routes.specs.Links.{powerOf, powerAt, powersOf, step};
 ghost use Rattle.routes.specs.Routes.{limitOf};
 ghost use Rattle.routes.specs.Search.{limitFrom, Sized, Linked, Searched};
 
-// No limit, or a limit.
+// No limit, or a limit in ten-thousandths of a cent.
 pub enum Limit {
     Open,
     Bound(i64),

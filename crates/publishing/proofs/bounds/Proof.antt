@@ -2,8 +2,7 @@
 use borrow.Author.Needs.{needs}
 use borrow.Author.Tests.{not-true}
 use mathlib.Core.Path.{_≡_, refl, sym, ap, _∙_}
-use mathlib.Core.Bool.{Bool, true, false}
-use mathlib.Core.Logic.{⊎-elim}
+use mathlib.Core.Bool.{true, false}
 use mathlib.Core.List.{List, _++_}
 use Prim.Native.Nat.{ℕ, _≤_, _<_, _-_}
 use native.Mathlib.Omega.{arith}
@@ -14,33 +13,25 @@ use mir.Val.{SFits, toZ, ofZ}
 use mir.Facts.{toZ-ofZ}
 use Rattle.laws.specs.Lists.{tabulate}
 use Rattle.laws.proofs.Lists.{tab-none, tab-step, tab-below}
-use Rattle.laws.proofs.Integers.{i32-i64, wide}
+use Rattle.routes.specs.declared.Limit.{Limit}
 use Rattle.routes.specs.declared.Limit.the-variants.{Open}
-use Rattle.publishing.specs.declared.Terms.{Terms}
+use Rattle.pricing.specs.Passing.{fine}
+use Rattle.publishing.specs.Bounds.{inCents}
 use Rattle.publishing.specs.Working.{boundOf}
 use Rattle.publishing.proofs.Limits.{source, source-fits, limitBy, small, searched, search-is, all-open}
 use Rattle.publishing.proofs.bounds.Statement.{statement}
 use Rattle.publishing.proofs.bounds.Tie as tie
 
--- the cast of a source's limit
-cast-is : (t : Terms) (b : Bool) {caps : Bool} {x : ℕ} → caps ≡ b → x ≡ ofZ w64 (toZ w32 (ofZ w32 (source b t))) → SFits w32 (source b t) → toZ w64 x ≡ source caps t
-cast-is t b e q f = rw (e, q, toZ-ofZ f) (wide f)
-
 abbrev Inv-loop : tie.InvT-loop
 Inv-loop caps terms sources flows factors «open» all₀ powers bound r₀ all r =
-    (r ≤ terms .regions) × (length all ≡ 8) × (all ≡ tabulate r (λ x. boundOf caps (limitBy caps terms flows factors (λ y. getD sources y false) x)) ++ drop r all₀)
+    (r ≤ terms .regions) × (length all ≡ 8) × (all ≡ tabulate r (λ x. boundOf caps (inCents (limitBy caps terms flows factors (λ y. getD sources y false) x))) ++ drop r all₀)
 
 abbrev μ-loop : tie.MeasureT-loop
 μ-loop caps terms sources flows factors «open» all₀ powers bound r₀ all r = terms .regions - r
 
-bound-of-requires : tie.Need-bound-of-requires Inv-loop μ-loop
-bound-of-requires c κs = search needs
-
-any-source-requires : tie.Need-any-source-requires Inv-loop μ-loop
-any-source-requires c κs = search needs
-
 -- eight times the bound of a region without a limit
 opened : (c : tie.After-bound-of Inv-loop μ-loop) → replicate 8 (toZ w32 (ofZ w32 (c .bound-of .result))) ≡ replicate 8 (boundOf (c .before .before .args .caps) Open)
+unfolding inCents
 opened c = let f : SFits w32 (c .bound-of .result) = search needs in ap (replicate 8) (toZ-ofZ f ∙ c .bound-of .ensures)
 
 returns : tie.Need-returns Inv-loop μ-loop
@@ -54,53 +45,43 @@ returns c =
 powers-requires : tie.Need-powers-requires Inv-loop μ-loop
 powers-requires c κs = let s = c .before .before .before .before .before in let n = s .pre .1 .flows-size in (omega (arith, s .pre .0 .regions .1), s .pre .1 .factors-size ∙ sym n)
 
-cast-source : tie.Need-cast-source Inv-loop μ-loop
-cast-source c =
-    let s = c .before .before .before .before .before .before .before .before .before in
-    let f = source-fits (s .args .terms) (s .pre .0) true in
-    rw (toZ-ofZ f) (i32-i64 f)
-
-cast-source-2 : tie.Need-cast-source-2 Inv-loop μ-loop
-cast-source-2 c =
-    let s = c .before .before .before .before .before .before .before .before .before in
-    let f = source-fits (s .args .terms) (s .pre .0) false in
-    rw (toZ-ofZ f) (i32-i64 f)
-
 loop-holds : tie.Need-loop-holds Inv-loop μ-loop
 loop-holds c = (omega arith, refl, tab-none _ _)
 
--- the limit of a source, by either arm
-sourced : (c : tie.Joined2 Inv-loop μ-loop) → let a = c .before .before .before .before .before .before .before .args in toZ w64 (c .if2 .source) ≡ source (a .caps) (a .terms)
+-- what the call for the limit of a source answers, as it is read
+sourced : (c : tie.After-source-limit Inv-loop μ-loop)
+    → let a = c .before .before .before .before .before .before .before .before .before .args in
+    toZ w64 (ofZ w64 (c .source-limit .result)) ≡ fine (source (a .caps) (a .terms))
 sourced c =
-    let s = c .before .before .before .before .before .before .before in
-    let t = s .args .terms in
-    let f = source-fits t (s .pre .0) in
-    ⊎-elim (λ w. cast-is t true (w .0 .taken) (w .3) (f true)) (λ w. cast-is t false (w .0 .left) (w .3) (f false)) (c .if2 .came)
+    let s = c .before .before .before .before .before .before .before .before .before in
+    let f : SFits w64 (c .source-limit .result) = search needs in
+    let g = source-fits (s .args .terms) (s .pre .0) in
+    toZ-ofZ f ∙ c .source-limit .ensures ∙ rw (toZ-ofZ (g true), toZ-ofZ (g false))
 
 limit-of-requires : tie.Need-limit-of-requires Inv-loop μ-loop
 limit-of-requires c κs =
     let j = c .before .before .before .before in
-    let s = j .before .before .before .before .before .before .before in
-    searched (s .args .terms) (s .pre .0) (s .args .flows .now) (s .args .factors .now) (s .pre .1) (j .before .powers .ensures) (s .args .caps) (sourced j) _ (omega arith)
+    let s = j .before .before .before .before .before .before .before .before .before in
+    searched (s .args .terms) (s .pre .0) (s .args .flows .now) (s .args .factors .now) (s .pre .1) (j .before .before .before .powers .ensures) (s .args .caps) (sourced j) _ (omega arith)
 
 -- what the search finds
 found : (c : tie.After-limit-of Inv-loop μ-loop)
-    → let a = c .before .before .before .before .before .before .before .before .before .before .before .before .args in
+    → let a = c .before .before .before .before .before .before .before .before .before .before .before .before .before .before .args in
     c .limit-of .result ≡ limitBy (a .caps) (a .terms) (a .flows .now) (a .factors .now) (λ y. getD (a .sources) y false) (c .before .before .before .before .loop .r)
 found c =
     let j = c .before .before .before .before .before in
-    let s = j .before .before .before .before .before .before .before in
+    let s = j .before .before .before .before .before .before .before .before .before in
     c .limit-of .ensures
-    ∙ search-is (s .args .terms) (s .pre .0) (s .args .flows .now) (s .args .factors .now) (s .pre .1) (j .before .powers .ensures) (s .args .caps) (sourced j) (s .args .sources) _ (omega arith)
+    ∙ search-is (s .args .terms) (s .pre .0) (s .args .flows .now) (s .args .factors .now) (s .pre .1) (j .before .before .before .powers .ensures) (s .args .caps) (sourced j) (s .args .sources) _ (omega arith)
 
 bound-of-requires-2 : tie.Need-bound-of-requires-2 Inv-loop μ-loop
 bound-of-requires-2 c κs =
-    let s = c .before .before .before .before .before .before .before .before .before .before .before .before in
+    let s = c .before .before .before .before .before .before .before .before .before .before .before .before .before .before in
     let a = s .args in
     rw (found c) (small (a .terms) (s .pre .0) (a .flows .now) (a .factors .now) (s .pre .1) (λ y. getD (a .sources) y false) (c .before .before .before .before .loop .r) (omega arith) (a .caps))
 
 start : (c : tie.After-bound-of2 Inv-loop μ-loop) → c .before .before .before .before .before .loop .r < 8
-start c = let s = c .before .before .before .before .before .before .before .before .before .before .before .before .before in omega (arith, s .pre .0 .regions .1)
+start c = let s = c .before .before .before .before .before .before .before .before .before .before .before .before .before .before .before in omega (arith, s .pre .0 .regions .1)
 
 mul-all : tie.Need-mul-all Inv-loop μ-loop
 mul-all c = omega (arith, start c)
@@ -111,24 +92,23 @@ array-set-from-all c = omega (arith, start c)
 add-r : tie.Need-add-r Inv-loop μ-loop
 add-r c = omega (arith, start c)
 
-loop-less : tie.Need-loop-less Inv-loop μ-loop
-loop-less c = omega arith
-
 loop-again : tie.Need-loop-again Inv-loop μ-loop
 loop-again c =
     let l = c .before .before .before .before .before .loop in
+    let s = c .before .before .before .before .before .before .before .before .before .before .before .before .before .before .before in
     let f : SFits w32 (c .bound-of2 .result) = search needs in
-    (omega arith, simp length-set (omega arith), tab-step _ _ _ _ _ (l .inv .2) (start c) (toZ-ofZ f ∙ c .bound-of2 .ensures ∙ ap (boundOf _) (found (c .before))))
+    let turned = toZ-ofZ f ∙ c .bound-of2 .ensures ∙ ap (λ (u : Limit). boundOf (s .args .caps) (inCents u)) (found (c .before)) in
+    (omega arith, simp length-set (omega arith), tab-step _ _ _ _ _ (l .inv .2) (start c) turned)
 
 returns-2 : tie.Need-returns-2 Inv-loop μ-loop
 returns-2 c =
     let l = c .before .before .loop in
-    let s = c .before .before .before .before .before .before .before .before .before .before in
+    let s = c .before .before .before .before .before .before .before .before .before .before .before .before in
     let a = s .args in
     let e : l .r ≡ a .terms .regions = omega arith in
-    let bound : ℕ → ℤ = λ x. boundOf (a .caps) (limitBy (a .caps) (a .terms) (a .flows .now) (a .factors .now) (λ y. getD (a .sources) y false) x) in
+    let bound : ℕ → ℤ = λ x. boundOf (a .caps) (inCents (limitBy (a .caps) (a .terms) (a .flows .now) (a .factors .now) (λ y. getD (a .sources) y false) x)) in
     l .inv .2
-    ∙ rw e (ap (λ (d : List ℤ). tabulate (a .terms .regions) bound ++ drop (a .terms .regions) d) (opened (c .before .before .before .before .before .before .before .before))
+    ∙ rw e (ap (λ (d : List ℤ). tabulate (a .terms .regions) bound ++ drop (a .terms .regions) d) (opened (c .before .before .before .before .before .before .before .before .before .before))
     ∙ tab-below _ (boundOf (a .caps) Open) 8 (a .terms .regions) (s .pre .0 .regions .1))
 
 pub bounds-spec : {M : Type 1} → statement M
@@ -137,18 +117,17 @@ bounds-spec =
     (tie.spec
     Inv-loop
     μ-loop
-    bound-of-requires
-    any-source-requires
+    (λ c κs. search needs)
+    (λ c κs. search needs)
     returns
     powers-requires
-    cast-source
-    cast-source-2
+    (λ c κs. search needs)
     loop-holds
     limit-of-requires
     bound-of-requires-2
     mul-all
     array-set-from-all
     add-r
-    loop-less
+    (λ c. omega arith)
     loop-again
     returns-2)

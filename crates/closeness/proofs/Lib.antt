@@ -1,0 +1,4 @@
+pub mod Errors
+pub mod Routes
+pub mod Theorem
+pub mod Cases
