@@ -3,7 +3,7 @@
 use mathlib.Core.Path.{_≡_, refl}
 use mathlib.Core.Bool.{true, false}
 use mathlib.Core.List.{List, [], _∷_}
-use native.Mathlib.Omega.{arith}
+use borrow.Author.Tests.{ltb-true}
 use lib.IntN.{pos, negsuc}
 use lib.ListN.{replicate}
 use Rattle.laws.specs.Tables.{Row, sameNumbers, agree}
@@ -53,7 +53,7 @@ pub cases-agree : agree cases ≡ true
 unfolding agree cases sameNumbers along carried cents rounded nearest times by
 cases-agree = refl
 
--- the first row again: 0.51 is not too much by far, since 0.50 would not do
+-- the first row again: 100 × 7,501 is less than 51 × 15,001, and is not less than 50 × 15,001
 pub one-link : Close true (15001 ∷ []) (pos 3751) (pos 2501)
 unfolding times by
-one-link = omega arith
+one-link = ltb-true 750100 765051 refl

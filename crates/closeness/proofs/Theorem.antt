@@ -45,7 +45,8 @@ module _ (caps : Bool) (t : Terms) (ok : Terms-ok t) (marks : List ℕ) (e : Ent
   against : (r : List ℕ) → Brings caps t marks e region r → (q : ℤ) × (limit caps t marks e region ≡ Bound q) × (noLooser caps q (brought caps t e region r) ≡ true)
   unfolding limit inCents
   against r b =
-      let own : pick (hasLimit caps t marks (e .offer) (sourceOf region r)) (Bound (fine (source caps t))) Open ≡ Bound (fine (source caps t)) = rw (b .source) in
+      let own : pick (hasLimit caps t marks (e .offer) (sourceOf region r)) (Bound (fine (source caps t))) Open ≡ Bound (fine (source caps t)) =
+      ap (λ (h : Bool). pick h (Bound (fine (source caps t))) Open) (b .source) in
       let w = no-looser caps power _ (t .regions) (ok .regions .1) region here r (b .simple) own (b .powered) in
       (cents (w .0), ap inCents (w .1), cents-no-looser caps (w .0) _ (w .2))
 

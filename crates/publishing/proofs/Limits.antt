@@ -42,11 +42,11 @@ fine-at e s = subst Fine e s
 
 pub bound-open : (caps : Bool) {l : Limit} → l ≡ Open → pick caps (pos 2147483647) (negsuc 2147483647) ≡ boundOf caps (inCents l)
 unfolding inCents
-bound-open caps e = rw e
+bound-open caps e = rw e refl
 
 pub bound-at : (caps : Bool) {l : Limit} {z : ℤ} → l ≡ Bound z → cents z ≡ boundOf caps (inCents l)
 unfolding inCents
-bound-at caps e = rw e
+bound-at caps e = rw e refl
 
 pub fine-small : (l : Limit) → Fine l → Small (inCents l)
 unfolding inCents

@@ -1,6 +1,6 @@
 -- `publishing::source_limit` meets its contract. Assumes nothing.
 use borrow.Author.Needs.{needs}
-use mathlib.Core.Path.{_≡_, _∙_}
+use mathlib.Core.Path.{_≡_, ap, _∙_}
 use mir.Syntax.{w32, w64}
 use mir.Val.{SFits}
 use mir.Facts.{toZ-ofZ}
@@ -13,7 +13,7 @@ returns c =
     let a = c .before .before .args in
     let f : SFits w64 (c .fine .result) = search needs in
     let g : SFits w32 (a .cap) = search needs in
-    let h : c .fine .result ≡ fine (a .cap) = rw (toZ-ofZ g) at (c .fine .ensures) in
+    let h : c .fine .result ≡ fine (a .cap) = c .fine .ensures ∙ ap fine (toZ-ofZ g) in
     rw (c .before .if1 .taken) (toZ-ofZ f ∙ h)
 
 returns-2 : tie.Need-returns-2
@@ -21,7 +21,7 @@ returns-2 c =
     let a = c .before .before .args in
     let f : SFits w64 (c .fine2 .result) = search needs in
     let g : SFits w32 (a .floor) = search needs in
-    let h : c .fine2 .result ≡ fine (a .floor) = rw (toZ-ofZ g) at (c .fine2 .ensures) in
+    let h : c .fine2 .result ≡ fine (a .floor) = c .fine2 .ensures ∙ ap fine (toZ-ofZ g) in
     rw (c .before .if1 .left) (toZ-ofZ f ∙ h)
 
 pub source-limit-spec : {M : Type 1} → statement M
