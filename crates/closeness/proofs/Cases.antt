@@ -16,13 +16,15 @@ unfoldable pub cases : List Row
 cases =
     -- one link: 25,005,000 ten-thousandths, though the exact quotient is 2,500.49997. It is 7,501 / 15,001 of a cent away
     record {
-      computed = passed true (15001 ∷ []) (pos 3751) ∷ pos (apart true (15001 ∷ []) (pos 3751) (pos 2501)) ∷ pos (by true (15001 ∷ [])) ∷ [];
+      computed =
+          passed true (15001 ∷ []) (pos 3751) ∷ pos (apart true (15001 ∷ []) (pos 3751) (pos 2501)) ∷ pos (by true (15001 ∷ [])) ∷ [];
       paper = pos 2501 ∷ pos 7501 ∷ pos 15001 ∷ [];
     }
     -- a cap over one, two and three links
     ∷ record {
       computed =
-          passed true (10800 ∷ []) (pos 60000) ∷ passed true (10800 ∷ 10300 ∷ []) (pos 60000) ∷ passed true (10800 ∷ 10300 ∷ 10300 ∷ []) (pos 60000) ∷ [];
+          passed true (10800 ∷ []) (pos 60000) ∷ passed true (10800 ∷ 10300 ∷ []) (pos 60000)
+          ∷ passed true (10800 ∷ 10300 ∷ 10300 ∷ []) (pos 60000) ∷ [];
       paper = pos 55556 ∷ pos 53937 ∷ pos 52366 ∷ [];
     }
     -- a floor over one, two and three

@@ -57,21 +57,29 @@ module _ (d n t b u v q p : ℕ) where
       omega (arith, mul-le-mul-left t l, mul-le-mul-left d m, mul-le-mul-left d i)
 
 -- 2 × |q × by − u × times| + by ≤ 2^k × by
-along-above : (caps : Bool) (l : List ℕ) (u : ℕ) → Factors l → 2 * (alongBy caps l u * by caps l) + by caps l ≤ 2 * (u * times caps l) + 2 ^ length l * by caps l
+along-above : (caps : Bool) (l : List ℕ) (u : ℕ) → Factors l
+    → 2 * (alongBy caps l u * by caps l) + by caps l ≤ 2 * (u * times caps l) + 2 ^ length l * by caps l
 unfolding alongBy times by
 along-above caps [] u ok = omega arith
 along-above caps (f ∷ l) u ok =
+    let d = pick caps f 10000 in
+    let n = pick caps 10000 f in
+    let v = carriedBy caps f u in
     rw (two-pow-succ (length l))
-    (off-above (pick caps f 10000) (pick caps 10000 f) (times caps l) (by caps l) u (carriedBy caps f u) (alongBy caps l (carriedBy caps f u)) (2 ^ length l)
-    (nearest-law (u * pick caps 10000 f) (pick caps f 10000) (divisor caps f (ok .0) .0) .0) (times-most caps l (ok .1)) (along-above caps l (carriedBy caps f u) (ok .1)))
+    (off-above d n (times caps l) (by caps l) u v (alongBy caps l v) (2 ^ length l)
+    (nearest-law (u * n) d (divisor caps f (ok .0) .0) .0) (times-most caps l (ok .1)) (along-above caps l v (ok .1)))
 
-along-below : (caps : Bool) (l : List ℕ) (u : ℕ) → Factors l → 2 * (u * times caps l) + by caps l ≤ 2 * (alongBy caps l u * by caps l) + 2 ^ length l * by caps l
+along-below : (caps : Bool) (l : List ℕ) (u : ℕ) → Factors l
+    → 2 * (u * times caps l) + by caps l ≤ 2 * (alongBy caps l u * by caps l) + 2 ^ length l * by caps l
 unfolding alongBy times by
 along-below caps [] u ok = omega arith
 along-below caps (f ∷ l) u ok =
+    let d = pick caps f 10000 in
+    let n = pick caps 10000 f in
+    let v = carriedBy caps f u in
     rw (two-pow-succ (length l))
-    (off-below (pick caps f 10000) (pick caps 10000 f) (times caps l) (by caps l) u (carriedBy caps f u) (alongBy caps l (carriedBy caps f u)) (2 ^ length l)
-    (nearest-law (u * pick caps 10000 f) (pick caps f 10000) (divisor caps f (ok .0) .0) .1) (times-most caps l (ok .1)) (along-below caps l (carriedBy caps f u) (ok .1)))
+    (off-below d n (times caps l) (by caps l) u v (alongBy caps l v) (2 ^ length l)
+    (nearest-law (u * n) d (divisor caps f (ok .0) .0) .1) (times-most caps l (ok .1)) (along-below caps l v (ok .1)))
 
 -- ---- the last step, over at most seven links
 module _ (caps : Bool) (l : List ℕ) (ok : Factors l) (seven : length l ≤ 7) (m : ℕ) where
@@ -89,7 +97,8 @@ module _ (caps : Bool) (l : List ℕ) (ok : Factors l) (seven : length l ≤ 7) 
 
   size-above : 100 * (q * by caps l) < 100 * (m * times caps l) + 51 * by caps l
   size-above =
-      omega (arith, along-above caps l (m * 10000) ok, mul-le-mul-right (by caps l) few, mul-le-mul-right (by caps l) (last .0), by-above caps l ok)
+      let b = by caps l in
+      omega (arith, along-above caps l (m * 10000) ok, mul-le-mul-right b few, mul-le-mul-right b (last .0), by-above caps l ok)
 
   size-below : 100 * (m * times caps l) < 100 * (q * by caps l) + 51 * by caps l
   size-below =
@@ -121,7 +130,8 @@ passed-pos : (caps : Bool) (l : List ℕ) (m : ℕ) → passed caps l (pos m) �
 unfolding cents rounded
 passed-pos caps l m = ap cents (along-pos caps l (m * 10000))
 
-passed-neg : (caps : Bool) (l : List ℕ) (m : ℕ) → Factors l → passed caps l (negℤ (pos m)) ≡ negℤ (pos (nearest (alongBy caps l (m * 10000)) 10000))
+passed-neg : (caps : Bool) (l : List ℕ) (m : ℕ) → Factors l
+    → passed caps l (negℤ (pos m)) ≡ negℤ (pos (nearest (alongBy caps l (m * 10000)) 10000))
 unfolding cents
 passed-neg caps l m ok =
     rw (neg-times m 10000, along-neg caps l (m * 10000) ok) (round-neg (alongBy caps l (m * 10000)) 10000 (omega arith))

@@ -46,15 +46,18 @@ factors-powered (f ∷ l) ok = (omega (arith, ok .0 .least), factors-powered l (
 pub factors-many : (caps : Bool) (power : ℕ → ℕ → ℕ) (x : ℕ) (r : List ℕ) → length (factorsOn caps power x r) ≡ length r
 unfolding factorsOn
 factors-many caps power x [] = refl
-factors-many caps power x (y ∷ r) = length-append (factorsOn caps power y r) (step caps power x y ∷ []) ∙ omega (arith, factors-many caps power y r)
+factors-many caps power x (y ∷ r) =
+    length-append (factorsOn caps power y r) (step caps power x y ∷ []) ∙ omega (arith, factors-many caps power y r)
 
 -- ---- along one route
-over-bound : (caps : Bool) (f : ℕ) (l : Limit) {z : ℤ} → over caps f l ≡ Bound z → (y : ℤ) × (l ≡ Bound y) × (z ≡ carried caps f y) × (f ≡ 0 → ⊥)
+over-bound : (caps : Bool) (f : ℕ) (l : Limit) {z : ℤ} → over caps f l ≡ Bound z
+    → (y : ℤ) × (l ≡ Bound y) × (z ≡ carried caps f y) × (f ≡ 0 → ⊥)
 unfolding over
 over-bound caps f Open e = absurd (open-not e)
 over-bound caps f (Bound y) {z} e = go (eqb f 0) refl e
   where
-    go : (t : Bool) → eqb f 0 ≡ t → pick t Open (Bound (carried caps f y)) ≡ Bound z → (w : ℤ) × (Bound y ≡ Bound w) × (z ≡ carried caps f w) × (f ≡ 0 → ⊥)
+    go : (t : Bool) → eqb f 0 ≡ t → pick t Open (Bound (carried caps f y)) ≡ Bound z
+        → (w : ℤ) × (Bound y ≡ Bound w) × (z ≡ carried caps f w) × (f ≡ 0 → ⊥)
     go true q h = absurd (open-not h)
     go false q h = (y, refl, sym (bound-same h), eqb-false f 0 q)
 
@@ -72,8 +75,10 @@ module _ (caps : Bool) (power : ℕ → ℕ → ℕ) (own : ℕ → Limit) where
   unfolding along sourceOf factorsOn Carrying.along over
   comes x [] e p = e
   comes x (y ∷ r) {c} e p =
-      let l = powered-last (factorsOn caps power y r) (step caps power x y) p in
-      rw (comes y r e (l .0), ne-eqb (step caps power x y) 0 (λ q. omega (arith, l .1))) (ap Bound (sym (along-last caps (factorsOn caps power y r) (step caps power x y) c)))
+      let rest = factorsOn caps power y r in
+      let last = step caps power x y in
+      let l = powered-last rest last p in
+      rw (comes y r e (l .0), ne-eqb last 0 (λ q. omega (arith, l .1))) (ap Bound (sym (along-last caps rest last c)))
 
   -- ---- the tightest is one of them
   tighter-one : (a b : Limit) {z : ℤ} → tighter caps a b ≡ Bound z → (a ≡ Bound z) ⊎ (b ≡ Bound z)
@@ -88,7 +93,8 @@ module _ (caps : Bool) (power : ℕ → ℕ → ℕ) (own : ℕ → Limit) where
       go false true h = inr h
       go false false h = inl h
 
-  one-of : (x : ℕ) (rs : List (List ℕ)) {z : ℤ} → overAll caps power own x rs ≡ Bound z → (r : List ℕ) × List·Memᴰ r rs × (along caps power own x r ≡ Bound z)
+  one-of : (x : ℕ) (rs : List (List ℕ)) {z : ℤ} → overAll caps power own x rs ≡ Bound z
+      → (r : List ℕ) × List·Memᴰ r rs × (along caps power own x r ≡ Bound z)
   unfolding overAll
   one-of x [] e = absurd (open-not e)
   one-of x (r ∷ rs) {z} e =
@@ -119,15 +125,18 @@ module _ (caps : Bool) (power : ℕ → ℕ → ℕ) (own : ℕ → Limit) where
   unfolding tighter minZ maxZ
   within-right y Open b w = w
   within-right y (Bound x) Open w = absurd (open-not (w .1))
-  within-right y (Bound x) (Bound v) w = go caps (leZ x v) refl (subst (λ (z : ℤ). noLooser caps z y ≡ true) (sym (bound-same (w .1))) (w .2))
+  within-right y (Bound x) (Bound v) w =
+      go caps (leZ x v) refl (subst (λ (z : ℤ). noLooser caps z y ≡ true) (sym (bound-same (w .1))) (w .2))
     where
-      go : (c t : Bool) → leZ x v ≡ t → noLooser c v y ≡ true → (z : ℤ) × (Bound (pick c (pick t x v) (pick t v x)) ≡ Bound z) × (noLooser c z y ≡ true)
+      go : (c t : Bool) → leZ x v ≡ t → noLooser c v y ≡ true
+          → (z : ℤ) × (Bound (pick c (pick t x v) (pick t v x)) ≡ Bound z) × (noLooser c z y ≡ true)
       go true true e h = (x, refl, le-test x y (omega integers))
       go true false e h = (v, refl, h)
       go false true e h = (v, refl, h)
       go false false e h = (x, refl, le-test y x (omega integers))
 
-  none-tighter : (x : ℕ) {r : List ℕ} {y : ℤ} → along caps power own x r ≡ Bound y → (rs : List (List ℕ)) → List·Memᴰ r rs → Within y (overAll caps power own x rs)
+  none-tighter : (x : ℕ) {r : List ℕ} {y : ℤ} → along caps power own x r ≡ Bound y → (rs : List (List ℕ)) → List·Memᴰ r rs
+      → Within y (overAll caps power own x rs)
   unfolding overAll
   none-tighter x e [] m = absurd (List·Memᴰ·not-nil m)
   none-tighter x {r} {y} e (q ∷ rs) (List·Memᴰ·head h) = rw (sym h, e) (within-left y (overAll caps power own x rs))
@@ -143,22 +152,26 @@ module _ (caps : Bool) (power : ℕ → ℕ → ℕ) (own : ℕ → Limit) (R : 
       none-tighter caps power own x (comes caps power own x r e p) (routesFrom R (R - 1) unseen x) (simple-routes R x few here r .1 s)
 
   module _ (linked : (x y : ℕ) → x < R → y < R → Linked (power x y)) where
-    came : (seen : List Bool) (x : ℕ) (r : List ℕ) → x < R → Simple R seen x r → {z : ℤ} → along caps power own x r ≡ Bound z → Came caps power own x r z
+    came : (seen : List Bool) (x : ℕ) (r : List ℕ) → x < R → Simple R seen x r → {z : ℤ} → along caps power own x r ≡ Bound z
+        → Came caps power own x r z
     unfolding along sourceOf factorsOn Carrying.along
     came seen x [] h s {z} e = record { limit = z; from = e; is = refl; factors = tt }
     came seen x (y ∷ r) h s {z} e =
-        let o = over-bound caps (step caps power x y) (along caps power own y r) e in
+        let rest = factorsOn caps power y r in
+        let last = step caps power x y in
+        let o = over-bound caps last (along caps power own y r) e in
         let c = came _ y r (s .0) (s .2) (o .1) in
         let n = o .3 in
         record {
           limit = c .limit;
           from = c .from;
-          is = o .2 ∙ ap (carried caps (step caps power x y)) (c .is) ∙ sym (along-last caps (factorsOn caps power y r) (step caps power x y) (c .limit));
-          factors = factors-last (factorsOn caps power y r) (step caps power x y) (c .factors) (step-linked caps power R linked x y h (s .0) (omega arith));
+          is = o .2 ∙ ap (carried caps last) (c .is) ∙ sym (along-last caps rest last (c .limit));
+          factors = factors-last rest last (c .factors) (step-linked caps power R linked x y h (s .0) (omega arith));
         }
 
     -- the limit of a region is that of a source over a route that visits no region twice
-    pub came-from : {z : ℤ} → limitOf caps power own R x ≡ Bound z → (r : List ℕ) × Simple R unseen x r × (length r ≤ R - 1) × Came caps power own x r z
+    pub came-from : {z : ℤ} → limitOf caps power own R x ≡ Bound z
+        → (r : List ℕ) × Simple R unseen x r × (length r ≤ R - 1) × Came caps power own x r z
     unfolding limitOf
     came-from e =
         let w = one-of caps power own x (routesFrom R (R - 1) unseen x) e in

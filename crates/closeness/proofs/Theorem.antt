@@ -4,9 +4,10 @@
 use mathlib.Core.Path.{_≡_, refl, sym, ap, _∙_, subst}
 use mathlib.Core.Bool.{Bool, true, false}
 use mathlib.Core.List.{List}
-use Prim.Native.Nat.{ℕ, _-_, _<_}
+use Prim.Native.Nat.{ℕ, _-_, _≤_, _<_}
 use native.Mathlib.Omega.{arith}
 use lib.IntN.{ℤ}
+use lib.ListN.{length}
 use Rattle.laws.specs.Base.{pick}
 use Rattle.pricing.specs.Carrying as Carrying
 use Rattle.pricing.specs.Passing.{fine, cents}
@@ -34,7 +35,8 @@ cents-no-looser : (caps : Bool) (x y : ℤ) → noLooser caps x y ≡ true → n
 cents-no-looser true x y h = cents-mono x y h
 cents-no-looser false x y h = cents-mono y x h
 
-module _ (caps : Bool) (t : Terms) (ok : Terms-ok t) (marks : List ℕ) (e : Entry) (links : Links-ok t (e .flows) (e .factors)) (region : ℕ) (here : region < t .regions) where
+module _ (caps : Bool) (t : Terms) (ok : Terms-ok t) (marks : List ℕ) (e : Entry) (links : Links-ok t (e .flows) (e .factors))
+    (region : ℕ) (here : region < t .regions) where
   abbrev power : ℕ → ℕ → ℕ
   power = powerOf (t .parents) (e .flows) (e .factors)
 
@@ -42,12 +44,13 @@ module _ (caps : Bool) (t : Terms) (ok : Terms-ok t) (marks : List ℕ) (e : Ent
   units = limitBy caps t (e .flows) (e .factors) (hasLimit caps t marks (e .offer)) region
 
   -- a route that brings a limit: there is a limit, and it is no looser
-  against : (r : List ℕ) → Brings caps t marks e region r → (q : ℤ) × (limit caps t marks e region ≡ Bound q) × (noLooser caps q (brought caps t e region r) ≡ true)
+  against : (r : List ℕ) → Brings caps t marks e region r
+      → (q : ℤ) × (limit caps t marks e region ≡ Bound q) × (noLooser caps q (brought caps t e region r) ≡ true)
   unfolding limit inCents
   against r b =
-      let own : pick (hasLimit caps t marks (e .offer) (sourceOf region r)) (Bound (fine (source caps t))) Open ≡ Bound (fine (source caps t)) =
-      ap (λ (h : Bool). pick h (Bound (fine (source caps t))) Open) (b .source) in
-      let w = no-looser caps power _ (t .regions) (ok .regions .1) region here r (b .simple) own (b .powered) in
+      let own : Limit = Bound (fine (source caps t)) in
+      let has : pick (hasLimit caps t marks (e .offer) (sourceOf region r)) own Open ≡ own = ap (λ (h : Bool). pick h own Open) (b .source) in
+      let w = no-looser caps power _ (t .regions) (ok .regions .1) region here r (b .simple) has (b .powered) in
       (cents (w .0), ap inCents (w .1), cents-no-looser caps (w .0) _ (w .2))
 
   pub passed-on : {q : ℤ} → limit caps t marks e region ≡ Bound q → PassedOn caps t marks e region q
@@ -57,14 +60,16 @@ module _ (caps : Bool) (t : Terms) (ok : Terms-ok t) (marks : List ℕ) (e : Ent
       let c = came-from caps power _ (t .regions) (ok .regions .1) region here (linked t ok (e .flows) (e .factors) links) (w .1) in
       let o = own-is (hasLimit caps t marks (e .offer) (sourceOf region (c .0))) (c .3 .from) in
       let l = linksOf caps t e region (c .0) in
+      let few : length l ≤ 7 = omega (arith, factors-many caps power region (c .0), c .2, ok .regions .1) in
       let p : q ≡ brought caps t e region (c .0) = w .2 ∙ ap cents (c .3 .is ∙ ap (Carrying.along caps l) (o .1)) in
       record {
         route = c .0;
         brings = record { simple = c .1; source = o .0; powered = factors-powered l (c .3 .factors) };
         is = p;
-        close = subst (Close caps l (source caps t)) (sym p)
-            (passed-close caps l (source caps t) (c .3 .factors) (omega (arith, factors-many caps power region (c .0), c .2, ok .regions .1)));
-        tightest = λ other b. let v = against other b in subst (λ (z : ℤ). noLooser caps z (brought caps t e region other) ≡ true) (bound-same (sym (v .1) ∙ h)) (v .2);
+        close = subst (Close caps l (source caps t)) (sym p) (passed-close caps l (source caps t) (c .3 .factors) few);
+        tightest = λ other b.
+            let v = against other b in
+            subst (λ (z : ℤ). noLooser caps z (brought caps t e region other) ≡ true) (bound-same (sym (v .1) ∙ h)) (v .2);
       }
 
   -- where no limit holds the prices, no route brings one

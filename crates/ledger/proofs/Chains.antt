@@ -1,5 +1,5 @@
--- The cases of request 2026-04 on both machines, the book from its opening and P: chains of regions over whose links a limit comes to another
--- cent than one that is rounded to the cent at every link. Assumes nothing.
+-- The cases of request 2026-04 on both machines, the book from its opening and P: chains of regions over whose links a limit comes to
+-- another cent than one that is rounded to the cent at every link. Assumes nothing.
 use mathlib.Core.Path.{_≡_, refl}
 use mathlib.Core.Bool.{true, _&&_}
 use mathlib.Core.List.{List, [], _∷_, _++_}
@@ -65,7 +65,8 @@ cases =
     (pos 100000 ∷ pos 90000 ∷ pos 90000 ∷ pos 90000 ∷ [])
     (pos 4 ∷ pos 60000 ∷ pos 55556 ∷ pos 53937 ∷ pos 52366 ∷ [])
     -- a floor over three links
-    ∷ case (pos 60000) (negsuc 60000) (pos 100000 ∷ pos 0 ∷ pos 0 ∷ pos 0 ∷ []) (negsuc 0) (0 ∷ 10507 ∷ 10507 ∷ 10507 ∷ []) (replicate 4 (negsuc 99999))
+    ∷ case (pos 60000) (negsuc 60000) (pos 100000 ∷ pos 0 ∷ pos 0 ∷ pos 0 ∷ []) (negsuc 0) (0 ∷ 10507 ∷ 10507 ∷ 10507 ∷ [])
+    (replicate 4 (negsuc 99999))
     (pos 4 ∷ negsuc 60000 ∷ negsuc 63042 ∷ negsuc 66238 ∷ negsuc 69597 ∷ [])
     -- a cap limit of 0
     ∷ case (pos 1) (negsuc 0) (pos 100000 ∷ pos 0 ∷ pos 0 ∷ []) (pos 1) (0 ∷ 20000 ∷ 20000 ∷ []) (pos 100000 ∷ pos 5 ∷ pos 5 ∷ [])

@@ -1,7 +1,7 @@
 -- Laws of a limit in ten-thousandths of a cent and of its last step. Assumes nothing.
 use mathlib.Core.Path.{_≡_, ap, _∙_}
 use mathlib.Core.Bool.{true}
-use Prim.Native.Nat.{ℕ, suc, _*_, _≤_}
+use Prim.Native.Nat.{ℕ, suc, _*_, _≤_, _<_}
 use native.Mathlib.Nat.{mul-le-mul-right}
 use native.Mathlib.Omega.{arith}
 use lib.IntN.{ℤ, pos, negsuc, negℤ, natAbs}
@@ -24,7 +24,9 @@ fine-size z k h = omega (arith, abs-mul z (pos 10000), mul-le-mul-right 10000 h)
 
 -- a source's own limit, which has passed no link, binds as it is
 whole : (m : ℕ) → nearest (m * 10000) 10000 ≡ m
-whole m = omega (arith, nearest-least (m * 10000) 10000 m (omega arith) (omega arith), nearest-size (m * 10000) 10000 m (omega arith) (omega arith))
+whole m =
+    let d : 0 < 10000 = omega arith in
+    omega (arith, nearest-least (m * 10000) 10000 m d (omega arith), nearest-size (m * 10000) 10000 m d (omega arith))
 
 pub cents-fine : (z : ℤ) → cents (fine z) ≡ z
 unfolding cents rounded
