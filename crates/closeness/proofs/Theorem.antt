@@ -1,6 +1,4 @@
--- THE BOUND of request 2026-04, tied to the book: the limit that an interval's prices are held to is what one route brings, "less than
--- 0.51 cent from the exact quotient or product along its route", and no looser than what any route brings. Where there is none,
--- no route brings one. Assumes nothing.
+-- The proof of what specs/Promise says: of the limit that publishing holds a region's energy to, then of every accepted entry. Assumes nothing.
 use mathlib.Core.Path.{_≡_, refl, sym, ap, _∙_, subst}
 use mathlib.Core.Bool.{Bool, true, false}
 use mathlib.Core.List.{List}
@@ -20,8 +18,12 @@ use Rattle.publishing.specs.declared.Terms.{Terms}
 use Rattle.publishing.specs.Entry.{Entry, Terms-ok, Links-ok}
 use Rattle.publishing.specs.Bounds.{hasLimit, inCents, limit}
 use Rattle.publishing.proofs.Limits.{source, limitBy, in-cents-at, linked}
+use Rattle.book.proofs.Validities.{valid-is}
+use Rattle.entries.specs.Entering.{termsOf}
+use Rattle.entries.proofs.Accepted.{accepted-entry, terms-ok, links-ok}
 use Rattle.closeness.specs.Exact.{Close}
 use Rattle.closeness.specs.Coming.{sourceOf, linksOf, Brings, brought, noLooser, PassedOn}
+use Rattle.closeness.specs.Promise.{Promise}
 use Rattle.closeness.proofs.Errors.{passed-close}
 use Rattle.closeness.proofs.Routes.{factors-many, factors-powered, came-from, no-looser}
 
@@ -75,3 +77,14 @@ module _ (caps : Bool) (t : Terms) (ok : Terms-ok t) (marks : List ℕ) (e : Ent
   -- where no limit holds the prices, no route brings one
   pub unbound : limit caps t marks e region ≡ Open → (r : List ℕ) → Brings caps t marks e region r → ⊥
   unbound h r b = let v = against r b in open-not (sym h ∙ v .1)
+
+-- of every entry that a book accepts
+pub promise : Promise
+promise b ring number e table eight h caps region here =
+    let a = accepted-entry b ring number e table h in
+    let t = terms-ok b (valid-is b (a .valid)) in
+    let l = links-ok b ring number e table a eight in
+    record {
+      bound = λ q i. passed-on caps (termsOf b) t (b .marks) e l region here i;
+      unbound = unbound caps (termsOf b) t (b .marks) e l region here;
+    }

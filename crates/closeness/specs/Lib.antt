@@ -1,2 +1,3 @@
 pub mod Exact
 pub mod Coming
+pub mod Promise
