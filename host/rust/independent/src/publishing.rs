@@ -1,4 +1,5 @@
-//! "One interval", steps 1 to 4.
+//! "One interval", steps 1 to 4. Limits are carried and rounded by request 2026-04 of document 02, whose words say so where they are
+//! quoted.
 
 use crate::ledger::Entry;
 use crate::rounding::half_away;
@@ -11,7 +12,10 @@ pub struct Published {
     pub count: u32,
 }
 
-/// The limits that bind a region's energy, if any.
+/// How many ten-thousandths of a cent are a cent: limits are on their way "in ten-thousandths of a cent" (request 2026-04).
+pub const CENT: i128 = 10_000;
+
+/// The limits that bind a region's energy, if any, in ten-thousandths of a cent.
 #[derive(Clone, Copy, Debug, Default, PartialEq, Eq)]
 pub struct Bounds {
     pub cap: Option<i128>,
@@ -90,7 +94,7 @@ fn capped_prices(
 }
 
 /// Step 3: "A region with administered energy and effective energy at or above the cap has cap limit = cap; at or below
-/// the floor, floor limit = floor."
+/// the floor, floor limit = floor." Both in ten-thousandths of a cent, as they set out.
 fn own_limits(
     shape: &Shape,
     settings: &Settings,
@@ -103,8 +107,8 @@ fn own_limits(
             let (cap, floor) = (i128::from(settings.cap), i128::from(settings.floor));
             let source = administered[energy];
             Bounds {
-                cap: (source && effective[energy] >= cap).then_some(cap),
-                floor: (source && effective[energy] <= floor).then_some(floor),
+                cap: (source && effective[energy] >= cap).then_some(cap * CENT),
+                floor: (source && effective[energy] <= floor).then_some(floor * CENT),
             }
         })
         .collect()
@@ -137,11 +141,12 @@ fn links(shape: &Shape, flows: &[i32], factors: &[u32]) -> Vec<Link> {
     links
 }
 
-/// One kind of limit: which way it goes over a link and what the link makes of it.
+/// One kind of limit: which way it goes over a link and what the link makes of it. "Each link should carry its limit in
+/// ten-thousandths of a cent, rounded there half away from zero" (request 2026-04): the last link of a route too.
 trait Travel {
     /// The region that a limit of `here` is given to over a link, if it goes that way.
     fn beyond(link: &Link, here: usize) -> Option<usize>;
-    /// The limit given.
+    /// The limit given, of these ten-thousandths and in them.
     fn given(limit: i128, link: &Link) -> i128;
 }
 
@@ -216,14 +221,17 @@ pub fn passed_on(shape: &Shape, flows: &[i32], factors: &[u32], own: &[Bounds]) 
         .collect()
 }
 
-/// "bind energy". A cap limit is above 0 and a floor limit below it, so that their order does not matter.
+/// "bind energy", and "the last step alone rounds to the cent" (request 2026-04), half away from zero as the links do. A cap limit
+/// is then 0 or more and a floor limit below 0, so that their order does not matter.
 fn bound_energy(energy: i128, bounds: &Bounds) -> i128 {
     let mut energy = energy;
-    if let Some(cap) = bounds.cap {
-        assert!(cap > 0);
+    if let Some(units) = bounds.cap {
+        let cap = half_away(units, CENT);
+        assert!(cap >= 0);
         energy = energy.min(cap);
     }
-    if let Some(floor) = bounds.floor {
+    if let Some(units) = bounds.floor {
+        let floor = half_away(units, CENT);
         assert!(floor < 0);
         energy = energy.max(floor);
     }

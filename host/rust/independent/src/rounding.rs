@@ -1,6 +1,6 @@
 //! Division to the nearest whole number.
 
-/// "rounds to the nearest cent, half away from zero", for any dividend and a divisor above 0.
+/// To the nearest whole number, "half away from zero", for any dividend and a divisor above 0.
 pub fn half_away(dividend: i128, divisor: i128) -> i128 {
     assert!(divisor > 0);
     let magnitude = half_up(dividend.abs(), divisor);
