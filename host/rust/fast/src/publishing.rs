@@ -1,16 +1,21 @@
-//! "One interval", steps 1 to 4: effective prices, caps, and limits over links.
+//! "One interval", steps 1 to 4: effective prices, caps, and limits over links, which are carried "in ten-thousandths of a cent"
+//! (request 2026-04 of document 02).
 
 use crate::book::{Book, MARKETS, NO_PARENT, REGIONS};
 use crate::entry::Entry;
 
-/// The limits that bind each region's energy; the extreme numbers stand for none.
+/// The limits that bind each region's energy, in ten-thousandths of a cent; the extreme numbers stand for none.
 struct Limits {
-    caps: [i32; REGIONS],
-    floors: [i32; REGIONS],
+    caps: [i64; REGIONS],
+    floors: [i64; REGIONS],
 }
 
-const NO_CAP: i32 = i32::MAX;
-const NO_FLOOR: i32 = i32::MIN;
+const NO_CAP: i64 = i64::MAX;
+const NO_FLOOR: i64 = i64::MIN;
+
+/// Ten-thousandths of a cent in a cent, and in half of one.
+const CENT: i64 = 10_000;
+const HALF: i64 = CENT / 2;
 
 impl Book {
     /// Steps 1 to 4 into the table. Answers how many published prices differ from the effective ones.
@@ -61,9 +66,9 @@ impl Book {
     #[inline]
     fn own_limits(&self, energy: i32, region: usize, limits: &mut Limits) -> bool {
         if energy >= self.cap {
-            limits.caps[region] = self.cap;
+            limits.caps[region] = i64::from(self.cap) * CENT;
         } else if energy <= self.floor {
-            limits.floors[region] = self.floor;
+            limits.floors[region] = i64::from(self.floor) * CENT;
         } else {
             return false;
         }
@@ -113,31 +118,39 @@ impl Book {
     }
 }
 
-/// "c × 10,000 / factor", to the nearest cent. A cap limit is above 0.
-fn carried_cap(cap: i32, factor: u32) -> i32 {
+/// "c × 10,000 / factor", to the nearest ten-thousandth of a cent. A cap limit is above 0.
+fn carried_cap(cap: i64, factor: u32) -> i64 {
     if cap == NO_CAP {
         return NO_CAP;
     }
     let factor = u64::from(factor);
-    ((cap as u64 * 10_000 + factor / 2) / factor) as i32
+    ((cap as u64 * 10_000 + factor / 2) / factor) as i64
 }
 
-/// "f × factor / 10,000", to the nearest cent, half away from zero. A floor limit is below 0.
-fn carried_floor(floor: i32, factor: u32) -> i32 {
+/// "f × factor / 10,000", to the nearest ten-thousandth of a cent, half away from zero. A floor limit is below 0: after seven links
+/// −12,800,000,000,000 at the least, and the product −256,000,000,000,000,000.
+fn carried_floor(floor: i64, factor: u32) -> i64 {
     if floor == NO_FLOOR {
         return NO_FLOOR;
     }
-    let magnitude = u64::from(floor.unsigned_abs()) * u64::from(factor);
-    -(((magnitude + 5_000) / 10_000) as i32)
+    let magnitude = floor.unsigned_abs() * u64::from(factor);
+    -(((magnitude + 5_000) / 10_000) as i64)
 }
 
-/// "The smallest cap limit and highest floor limit bind energy." Answers how many are changed.
+/// "The smallest cap limit and highest floor limit bind energy", and "the last step alone rounds to the cent": where energy is
+/// beyond the rounded limit, which a comparison of ten-thousandths says before any is rounded. Answers how many are changed.
 fn bind_energy(limits: &Limits, markets: usize, table: &mut [i32]) -> u32 {
     let mut count = 0;
     for (region, row) in table.chunks_exact_mut(markets).enumerate() {
-        let bound = row[0].min(limits.caps[region]).max(limits.floors[region]);
-        count += u32::from(bound != row[0]);
-        row[0] = bound;
+        let energy = i64::from(row[0]) * CENT;
+        let (cap, floor) = (limits.caps[region], limits.floors[region]);
+        if cap < energy - HALF {
+            row[0] = ((cap + HALF) / CENT) as i32;
+            count += 1;
+        } else if floor > energy + HALF {
+            row[0] = ((floor - HALF) / CENT) as i32;
+            count += 1;
+        }
     }
     count
 }
