@@ -19,6 +19,9 @@ struct Running {
     marks: Vec<bool>,
 }
 
+/// Ten-thousandths of a cent, in which limits are carried, that make a cent.
+const CENT: i64 = 10_000;
+
 /// Nearest, half away from zero, by shifting half the divisor.
 fn divide(dividend: i64, divisor: i64) -> i64 {
     (2 * dividend.abs() + divisor) / (2 * divisor) * dividend.signum()
@@ -67,8 +70,8 @@ impl Running {
             let energy = region * markets;
             if self.marks[energy] {
                 table[energy] = table[energy].clamp(floor, cap);
-                caps[region] = (effective[energy] >= cap).then_some(cap);
-                floors[region] = (effective[energy] <= floor).then_some(-floor);
+                caps[region] = (effective[energy] >= cap).then_some(cap * CENT);
+                floors[region] = (effective[energy] <= floor).then_some(-floor * CENT);
             }
             if self.marks[row.clone()].contains(&true) {
                 for service in &mut table[row][1..] {
@@ -79,8 +82,10 @@ impl Running {
         self.sweep(entry, &mut caps, &mut floors);
         for region in 0..regions {
             let energy = &mut table[region * markets];
-            *energy = (*energy).min(caps[region].unwrap_or(i64::MAX));
-            *energy = (*energy).max(floors[region].map_or(i64::MIN, |floor| -floor));
+            let cents = |limit: Option<i64>| limit.map_or(i64::MAX, |units| divide(units, CENT));
+            *energy = (*energy)
+                .min(cents(caps[region]))
+                .max(-cents(floors[region]));
         }
         self.join_windows(entry);
         let changed = table

@@ -5,7 +5,7 @@ use independent::amount::{amount_text, write_amount};
 use independent::image::{self, Fields};
 use independent::index::index_for_c;
 use independent::maker::{make, Making};
-use independent::publishing::{passed_on, Bounds};
+use independent::publishing::{passed_on, Bounds, CENT};
 use independent::rounding::half_away;
 use independent::rules::Refusal;
 use independent::{Ledger, Opening};
@@ -280,9 +280,9 @@ fn a44_eight_regions_in_a_row() {
         ..linked(&[255, 0, 1, 2, 3, 4, 5, 6])
     });
     let mut own = [Bounds::default(); 8];
-    own[0].floor = Some((-MOST).into());
+    own[0].floor = Some(CENT * i128::from(-MOST));
     let bounds = passed_on(ledger.shape(), &[-1; 8], &[20_000; 8], &own);
-    assert_eq!(bounds[7].floor, Some(-1_280_000_000));
+    assert_eq!(bounds[7].floor, Some(CENT * -1_280_000_000));
     let mut ledger = ledger;
     take_plain(&mut ledger, &[100_000, 0, 0, 0, 0, 0, 0, 0]);
     let mut entry = plain(&ledger, &[-MOST; 8]);
