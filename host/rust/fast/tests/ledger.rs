@@ -115,10 +115,10 @@ fn one_list(seed: u64, length: usize, seen: &mut Seen) {
 #[test]
 fn lists() {
     let mut seen = Seen::new();
-    for seed in 0..700 {
+    for seed in 0..900 {
         one_list(seed, 40, &mut seen);
     }
-    for seed in 700..704 {
+    for seed in 900..904 {
         one_list(seed, 160, &mut seen);
     }
     let met: [(u16, &[u32]); 5] = [

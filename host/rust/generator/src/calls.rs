@@ -1,8 +1,10 @@
 //! Openings and lists of calls over small books, so that windows fill and days end often.
 
 use crate::random::Random;
+use crate::ties;
 use independent::ledger::Entry;
-use independent::rules::NO_PARENT;
+use independent::publishing::publish;
+use independent::rules::{Settings, NO_PARENT};
 use independent::{Call, Ledger, Opening};
 
 /// The ring length that an opening with small settings asks for.
@@ -14,10 +16,16 @@ pub fn ring_length(opening: &Opening) -> usize {
     length.min(1 << 40) as usize
 }
 
-/// Limits: the guide's, small ones at which rounding shows, the least and the most.
+/// Limits: the guide's, small ones at which rounding shows, the least and the most, and those that tie.
 fn limits(random: &mut Random) -> (i32, i32) {
-    let cap = random.pick(&[60_000, 60_000, 60_001, 1, 2, 7, 10_000_000]);
-    let floor = random.pick(&[-60_000, -60_000, -60_001, -1, -2, -7, -10_000_000]);
+    let cap = match random.chance(50) {
+        true => ties::cap(random),
+        false => random.pick(&[60_000, 60_000, 60_001, 1, 2, 7, 10_000_000]),
+    };
+    let floor = match random.chance(50) {
+        true => ties::floor(random),
+        false => random.pick(&[-60_000, -60_000, -60_001, -1, -2, -7, -10_000_000]),
+    };
     (cap, floor)
 }
 
@@ -30,6 +38,21 @@ fn threshold(random: &mut Random, cap: i32) -> i64 {
         2 => 95_000,
         _ => random.between(1, 3 * cap),
     }
+}
+
+/// The regions' parents: mostly any lower ones, else those before them, so that limits go over many links.
+fn parents(random: &mut Random, regions: u32) -> [u8; 8] {
+    let mut parents = [NO_PARENT; 8];
+    let in_a_row = random.chance(40);
+    let linkable = parents.iter_mut().enumerate().take(regions as usize);
+    for (region, parent) in linkable.skip(1) {
+        if in_a_row {
+            *parent = region as u8 - 1;
+        } else if random.chance(85) {
+            *parent = random.below(region) as u8;
+        }
+    }
+    parents
 }
 
 /// A valid opening: R 1..8, S 0..10, W mostly 1..6, H mostly 1..3.
@@ -53,13 +76,7 @@ pub fn opening(random: &mut Random) -> Opening {
         0 => random.pick(&[47, 48]),
         _ => random.between(1, 3),
     } as u32;
-    let mut parents = [NO_PARENT; 8];
-    let linkable = parents.iter_mut().enumerate().take(regions as usize);
-    for (region, parent) in linkable.skip(1) {
-        if random.chance(85) {
-            *parent = random.below(region) as u8;
-        }
-    }
+    let parents = parents(random, regions);
     let (cap, floor) = limits(random);
     Opening {
         regions,
@@ -170,6 +187,127 @@ fn any_number(random: &mut Random) -> i32 {
     }
 }
 
+/// Energy prices of a whole entry, for limits that bind: all of them beyond the cap, one alone and the others not above 0, all of
+/// them beyond the floor, or each of its own.
+#[derive(Clone, Copy, Debug, PartialEq, Eq)]
+enum Energy {
+    High,
+    OneHigh(usize),
+    Low,
+    Any,
+}
+
+impl Energy {
+    /// One high price where no energy is administered; low ones, mostly, where some is, since its own floor is nearer than those that
+    /// reach it; high ones where all is.
+    fn of(random: &mut Random, ledger: &Ledger) -> Energy {
+        let regions = ledger.shape().regions;
+        let reports = (0..regions).map(|region| ledger.report(region as u32, 0));
+        let marks: u32 = reports
+            .map(|report| report.map_or(0, |report| report.mark))
+            .sum();
+        match random.below(10) {
+            0..=3 => Energy::Any,
+            _ if marks == 0 => Energy::OneHigh(random.below(regions)),
+            4 => Energy::Low,
+            _ if marks == regions as u32 => Energy::High,
+            5 => Energy::High,
+            _ => Energy::Low,
+        }
+    }
+
+    /// A region's valid price. Seven links make a floor 128 times as low.
+    fn price(self, random: &mut Random, ledger: &Ledger, region: usize) -> i32 {
+        let settings = ledger.settings();
+        let most = 10_000_000;
+        let price = match self {
+            Energy::Any => return price(random, ledger, 0),
+            Energy::OneHigh(one) if one != region => random.between(-1, 0),
+            Energy::Low => i64::from(settings.floor) * random.pick(&[1, 8, 129, 129]),
+            _ => random
+                .pick(&[settings.cap, settings.cap.saturating_add(1), most, most])
+                .into(),
+        };
+        price.clamp(-i64::from(most), most.into()) as i32
+    }
+}
+
+/// Prices, half of them wild where a mark is.
+fn prices(random: &mut Random, ledger: &Ledger, marks: &[u8], energy: Energy) -> Vec<i32> {
+    let mut prices = Vec::new();
+    for (region, &mark) in marks.iter().enumerate() {
+        for market in 0..ledger.shape().markets() {
+            prices.push(if mark == 1 && random.chance(50) {
+                any_number(random)
+            } else if market == 0 {
+                energy.price(random, ledger, region)
+            } else {
+                price(random, ledger, market)
+            });
+        }
+    }
+    prices
+}
+
+/// Factors, half of them wild where a region has no parent: of half of the entries those that tie, else from the range's ends, the
+/// guide's or any.
+fn factors(random: &mut Random, ledger: &Ledger, energy: Energy) -> Vec<u32> {
+    let Settings { cap, floor, .. } = ledger.settings();
+    let limits = match energy {
+        Energy::Any => [cap, floor],
+        Energy::Low => [floor; 2],
+        Energy::High | Energy::OneHigh(_) => [cap; 2],
+    };
+    let ties = random.chance(50).then(|| ties::factors(random, &limits));
+    let mut factors = Vec::new();
+    for region in 0..ledger.shape().regions {
+        let linked = ledger.shape().parent(region).is_some();
+        factors.push(match &ties {
+            _ if !linked && random.chance(50) => random.pick(&[0, 9_999, 20_001, u32::MAX]),
+            Some(route) => route[(region + route.len() - 1) % route.len()],
+            None => match random.below(4) {
+                0 => random.pick(&[10_000, 20_000, 15_000, 10_001, 19_999]),
+                1 => 11_000,
+                _ => random.between(10_000, 20_000) as u32,
+            },
+        });
+    }
+    factors
+}
+
+/// Flows: each of its own, or all one way, so that limits go over every link.
+fn flows(random: &mut Random, regions: usize) -> Vec<i32> {
+    let menu = [1, 1, 1, -1, -1, -1, 0, i32::MIN, i32::MAX, 437];
+    match random.below(4) {
+        0 => vec![1; regions],
+        1 => vec![-1; regions],
+        _ => (0..regions).map(|_| random.pick(&menu)).collect(),
+    }
+}
+
+/// Moves energy prices to those that the entry publishes, or a cent beside them: where a limit just binds, or just does not.
+fn draw_near(random: &mut Random, ledger: &Ledger, entry: &mut Entry) {
+    let (shape, settings) = (ledger.shape(), ledger.settings());
+    let market = |place| {
+        (
+            (place / shape.markets()) as u32,
+            (place % shape.markets()) as u32,
+        )
+    };
+    let reports = (0..shape.prices()).map(|place| ledger.report(market(place).0, market(place).1));
+    let administered: Vec<bool> = reports
+        .map(|report| report.is_ok_and(|report| report.mark == 1))
+        .collect();
+    let published = publish(shape, &settings, ledger.position(), &administered, entry);
+    for region in 0..shape.regions {
+        let energy = shape.place(region, 0);
+        if entry.marks[region] == 0 && random.chance(60) {
+            let nearby = published.table[energy] + random.between(-1, 1) as i32;
+            entry.prices[energy] = nearby.clamp(-10_000_000, 10_000_000);
+        }
+    }
+}
+
 /// A valid entry, with wild numbers where they are not looked at.
 pub fn entry(random: &mut Random, ledger: &Ledger) -> Entry {
     let shape = *ledger.shape();
@@ -178,32 +316,10 @@ pub fn entry(random: &mut Random, ledger: &Ledger) -> Entry {
     let marks: Vec<u8> = (0..shape.regions)
         .map(|_| random.chance(suspension).into())
         .collect();
-    let mut prices = Vec::new();
-    for &mark in &marks {
-        for market in 0..shape.markets() {
-            prices.push(if mark == 1 && random.chance(50) {
-                any_number(random)
-            } else {
-                price(random, ledger, market)
-            });
-        }
-    }
-    let mut factors = Vec::new();
-    for region in 0..shape.regions {
-        let linked = shape.parent(region).is_some();
-        factors.push(if !linked && random.chance(50) {
-            random.pick(&[0, 9_999, 20_001, u32::MAX])
-        } else {
-            match random.below(4) {
-                0 => random.pick(&[10_000, 20_000, 15_000, 10_001, 19_999]),
-                1 => 11_000,
-                _ => random.between(10_000, 20_000) as u32,
-            }
-        });
-    }
-    let flows = (0..shape.regions)
-        .map(|_| random.pick(&[1, 1, 1, -1, -1, -1, 0, i32::MIN, i32::MAX, 437]))
-        .collect();
+    let energy = Energy::of(random, ledger);
+    let prices = prices(random, ledger, &marks, energy);
+    let factors = factors(random, ledger, energy);
+    let flows = flows(random, shape.regions);
     let schedule = (0..shape.schedule())
         .map(|_| match random.below(6) {
             0 => any_number(random),
@@ -212,7 +328,7 @@ pub fn entry(random: &mut Random, ledger: &Ledger) -> Entry {
             _ => random.between(-100_000, 100_000) as i32,
         })
         .collect();
-    Entry {
+    let mut entry = Entry {
         number: ledger.entries_taken(),
         kind: random.below(2) as u8,
         prices,
@@ -220,7 +336,11 @@ pub fn entry(random: &mut Random, ledger: &Ledger) -> Entry {
         flows,
         factors,
         schedule,
+    };
+    if random.chance(15) {
+        draw_near(random, ledger, &mut entry);
     }
+    entry
 }
 
 /// A slice made one longer, one shorter or empty.

@@ -9,6 +9,7 @@ pub mod lists;
 pub mod makings;
 pub mod questions;
 pub mod random;
+mod ties;
 pub mod weeks;
 
 pub use random::Random;
