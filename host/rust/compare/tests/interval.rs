@@ -49,19 +49,26 @@ impl Running {
         }
     }
 
-    /// Steps 1 to 6 of an entry that is accepted: the table and the count of changed prices.
-    fn enter(&mut self, entry: &Entry) -> (Vec<i32>, u32) {
+    /// Step 1.
+    fn effective(&self, entry: &Entry) -> Vec<i64> {
         let (cap, floor) = (i64::from(self.settings.cap), i64::from(self.settings.floor));
-        let (regions, markets) = (self.shape.regions, self.shape.markets());
-        let mut effective = vec![0; regions * markets];
+        let markets = self.shape.markets();
+        let mut effective: Vec<i64> = entry.prices.iter().map(|&price| price.into()).collect();
         for (place, price) in effective.iter_mut().enumerate() {
             let lowest = if place % markets == 0 { floor } else { 0 };
-            *price = i64::from(entry.prices[place]);
             if entry.marks[place / markets] == 1 {
                 let row = (2 * place + usize::from(entry.kind)) * self.shape.halves;
                 *price = i64::from(entry.schedule[row + self.position / 6]).clamp(lowest, cap);
             }
         }
+        effective
+    }
+
+    /// Steps 1 to 6 of an entry that is accepted: the table and the count of changed prices.
+    fn enter(&mut self, entry: &Entry) -> (Vec<i32>, u32) {
+        let (cap, floor) = (i64::from(self.settings.cap), i64::from(self.settings.floor));
+        let (regions, markets) = (self.shape.regions, self.shape.markets());
+        let effective = self.effective(entry);
         let mut table = effective.clone();
         let mut caps = vec![None; regions];
         let mut floors = vec![None; regions];
