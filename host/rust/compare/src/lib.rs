@@ -5,6 +5,7 @@ pub mod cutting;
 pub mod intervals;
 pub mod left;
 pub mod lent;
+pub mod limits;
 pub mod playing;
 pub mod replay;
 pub mod typed;
