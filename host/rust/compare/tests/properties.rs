@@ -1,7 +1,11 @@
-//! What document 01 states of the ledger, over generated lists of calls.
+//! What document 01 states of the ledger, over generated lists of calls; and what request 2026-04 of document 02 states of passed-on
+//! limits, through the archive.
 
-use compare::{rounds, say};
+use compare::limits::{whole, Link, RULE};
+use compare::typed::Pair;
+use compare::{books, rounds, say};
 use generator::{calls, images, Random};
+use independent::ledger::Entry;
 use independent::{image, Answer, Call, Ledger, Report, Values};
 use std::collections::BTreeMap;
 
@@ -129,10 +133,10 @@ fn restarts_at_every_phase() {
     let mut random = Random::new(0x7_0000);
     for window in 1..=6 {
         for services in [0, 1] {
-            let mut opening = compare::books::opening(3, services, window, 1);
-            opening.parents = compare::books::parents(&[255, 0, 0]);
+            let mut opening = books::opening(3, services, window, 1);
+            opening.parents = books::parents(&[255, 0, 0]);
             for phase in 0..3 * window + 3 {
-                let mut ledger = compare::books::open(&opening);
+                let mut ledger = books::open(&opening);
                 let mut restarted = ledger.clone();
                 for turn in 0..4 * window + 4 {
                     if turn == phase {
@@ -212,4 +216,155 @@ fn openings() {
         met.keys().copied().collect::<Vec<u32>>(),
         [0, 11, 18, 19, 20]
     );
+}
+
+const MOST: i32 = 10_000_000;
+
+/// Regions in a row, the first one's energy administered for the rest of a long day.
+fn row(links: usize) -> Pair {
+    let regions = links + 1;
+    let mut opening = books::opening(regions as u32, 0, 1, 48);
+    for region in 1..regions {
+        opening.parents[region] = region as u8 - 1;
+    }
+    let opened = Pair::open(&opening, regions).expect("no difference");
+    let mut row = opened.expect("a valid opening");
+    let mut prices = vec![0; regions];
+    prices[0] = MOST;
+    published(&mut row, prices, 0, vec![10_000; regions]);
+    row
+}
+
+/// The prices that the next entry publishes, by the archive and the independent book.
+fn published(row: &mut Pair, prices: Vec<i32>, flow: i32, factors: Vec<u32>) -> Vec<i32> {
+    let regions = prices.len();
+    let entry = Entry {
+        number: row.kept().0.entries,
+        kind: 0,
+        prices,
+        marks: vec![0; regions],
+        flows: vec![flow; regions],
+        factors,
+        schedule: vec![0; regions * 2 * 48],
+    };
+    let answer = row.call(&Call::Entry(entry, regions, vec![0; regions]));
+    match answer.expect("no difference").values {
+        Values::Entry(_, table) => table,
+        values => panic!("{values:?}"),
+    }
+}
+
+/// Factors of a row's links: any, one for all, or from the ends of their range.
+fn row_factors(random: &mut Random, links: usize) -> Vec<u32> {
+    let one = random.between(10_000, 20_000) as u32;
+    let ends = [10_000, 10_001, 19_999, 20_000];
+    let style = random.below(4);
+    let factors = (0..links).map(|_| match style {
+        0 => one,
+        1 => random.pick(&ends),
+        _ => random.between(10_000, 20_000) as u32,
+    });
+    factors.collect()
+}
+
+/// How far off a price is, in how many parts: the distance from the exact number is the first divided by the second.
+fn distance(price: i128, limit: i128, links: &[Link]) -> (i128, i128) {
+    let (times, by) = whole(links);
+    ((price * by - limit * times).abs(), by)
+}
+
+/// A distance in millionths of a cent, cut.
+fn millionths((off, by): (i128, i128)) -> i128 {
+    off * 1_000_000 / by
+}
+
+/// A limit from all of its range, or of some drawn the one farthest off at the route's end, among those that bind a price there.
+fn far_limit(random: &mut Random, side: i128, links: &[Link]) -> i128 {
+    if random.chance(30) {
+        return side * i128::from(random.between(1, MOST.into()));
+    }
+    let mut farthest = (-1, side);
+    for _ in 0..random.pick(&[20, 400]) {
+        let bound = 10i64.pow(random.between(0, 7) as u32);
+        let limit = side * i128::from(random.between(1, bound));
+        let end = RULE(limit, links);
+        if end.abs() <= MOST.into() {
+            farthest = farthest.max((millionths(distance(end, limit, links)), limit));
+        }
+    }
+    farthest.1
+}
+
+/// What was seen of passed-on limits: how many bound a price, how many no price can reach, and of the first how many are farther off
+/// than half a cent, and the farthest in millionths of a cent.
+#[derive(Debug, Default)]
+struct Near {
+    bound: u64,
+    beyond: u64,
+    above_half: u64,
+    farthest: i128,
+}
+
+impl Near {
+    /// "less than 0.51 cent from the exact quotient or product along its route". A floor limit that is not nearer to zero than the
+    /// lowest price binds none, which then stays.
+    fn price(&mut self, price: i32, limit: i128, links: &[Link]) {
+        let ((times, by), most) = (whole(links), i128::from(MOST));
+        if 2 * limit * times <= -(2 * most + 1) * by {
+            assert_eq!(price, -MOST, "{limit} over {links:?}");
+            self.beyond += 1;
+            return;
+        }
+        let (off, by) = distance(price.into(), limit, links);
+        assert!(100 * off < 51 * by, "{limit} over {links:?}: {price}");
+        self.bound += 1;
+        self.above_half += u64::from(2 * off > by);
+        self.farthest = self.farthest.max(millionths((off, by)));
+    }
+
+    /// A limit of one kind over a row, every price of which is beyond it.
+    fn limit(&mut self, random: &mut Random, row: &mut Pair, side: i128) {
+        let regions = usize::from(row.kept().0.regions);
+        let factors = row_factors(random, regions - 1);
+        let link = |&factor: &u32| match side {
+            1 => (10_000, factor.into()),
+            _ => (factor.into(), 10_000),
+        };
+        let links: Vec<Link> = factors.iter().map(link).collect();
+        let limit = far_limit(random, side, &links);
+        let (cap, floor) = if side > 0 {
+            (limit as i32, -1)
+        } else {
+            (1, limit as i32)
+        };
+        let set = row.call(&Call::Limits(cap, floor));
+        assert_eq!(set.map(|answer| answer.number), Ok(0));
+        let (side, factors) = (side as i32, [vec![0], factors].concat());
+        let table = published(row, vec![side * MOST; regions], side, factors);
+        assert_eq!(i128::from(table[0]), limit, "a source's own");
+        for region in 1..regions {
+            self.price(table[region], limit, &links[..region]);
+        }
+    }
+}
+
+/// "Show that a passed-on limit, cap or floor, is less than 0.51 cent from the exact quotient or product along its route, for up to
+/// seven links." Less than 0.5 would not hold of either.
+#[test]
+fn passed_on_limits_are_near() {
+    for (name, side) in [("caps", 1), ("floors", -1)] {
+        let mut near = Near::default();
+        for round in 0..rounds() {
+            let mut random = Random::new(0xB_0000 + round);
+            for turn in 0..70 {
+                let mut row = row(turn % 7 + 1);
+                for _ in 0..280 {
+                    near.limit(&mut random, &mut row, side);
+                }
+            }
+        }
+        say(&format!("passed-on {name}: {near:?}"));
+        assert!(near.bound >= 50_000 && near.above_half >= 100);
+        assert!(near.farthest > 500_100 && (near.beyond > 1_000) == (side < 0));
+    }
 }
