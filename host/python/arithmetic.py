@@ -17,7 +17,7 @@ class Refused(Exception):
 
 
 def nearest(value):
-    """ "rounds to the nearest cent, half away from zero" """
+    """To the nearest whole number, "half away from zero". """
     size = floor(abs(Fraction(value)) + Fraction(1, 2))
     return size if value >= 0 else -size
 

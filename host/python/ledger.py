@@ -224,16 +224,17 @@ class Ledger:
         return table
 
     def bind(self, entry, table, caps, floors):
-        """Step 4: "The smallest cap limit and highest floor limit bind energy." """
+        """Step 4: "The smallest cap limit and highest floor limit bind energy", and of the way there "the last step
+        alone rounds to the cent" (request 2026-04 of document 02). """
         links = self.links(entry)
         up = [(y, x, Fraction(10_000, factor)) for x, y, factor in links]
         down = [(x, y, Fraction(factor, 10_000)) for x, y, factor in links]
         for source, limit in caps.items():
-            for region, reached in travelled(source, limit, up):
-                table[region * self.markets] = min(table[region * self.markets], reached)
+            for region, reached in self.travelled(source, limit, up):
+                table[region * self.markets] = min(table[region * self.markets], nearest(reached))
         for source, limit in floors.items():
-            for region, reached in travelled(source, limit, down):
-                table[region * self.markets] = max(table[region * self.markets], reached)
+            for region, reached in self.travelled(source, limit, down):
+                table[region * self.markets] = max(table[region * self.markets], nearest(reached))
 
     def links(self, entry):
         """Where power goes from X to Y, and the factor: "Flow above 0 carries from a region to its parent, below 0 from
@@ -246,13 +247,18 @@ class Ledger:
                 links.append((*ends, entry.factors[region]))
         return links
 
+    def travelled(self, region, limit, ways):
+        """The region's limit and those that it gives, in cents and parts of one: "a cap limit c of Y gives X the limit
+        c × 10,000 / factor, and a floor limit f of X gives Y f × factor / 10,000. Limits travel on over any number of
+        links". """
+        reached = [(region, limit)]
+        for start, end, ratio in ways:
+            if start == region:
+                reached += self.travelled(end, self.given(limit * ratio), ways)
+        return reached
 
-def travelled(region, limit, ways):
-    """The region's limit and those that it gives: "a cap limit c of Y gives X the limit c × 10,000 / factor, and a
-    floor limit f of X gives Y f × factor / 10,000. Limits travel on over any number of links", and "Each link rounds
-    to the nearest cent". """
-    reached = [(region, limit)]
-    for start, end, ratio in ways:
-        if start == region:
-            reached += travelled(end, nearest(limit * ratio), ways)
-    return reached
+    @staticmethod
+    def given(limit):
+        """Request 2026-04 of document 02: "Each link should carry its limit in ten-thousandths of a cent, rounded there
+        half away from zero". """
+        return Fraction(nearest(10_000 * limit), 10_000)

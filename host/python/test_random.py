@@ -3,10 +3,11 @@
 import random
 import unittest
 from collections import Counter
+from dataclasses import replace
 
 import arithmetic
 import guxhamole
-from arithmetic import Refused
+from arithmetic import Refused, nearest
 from guxhamole import Book, Refusal, Settings
 from image import image_of, refuse_image
 from ledger import NONE, Entry, Ledger
@@ -17,6 +18,18 @@ WINDOWS = (1, 2, 3, 4)
 # Every refusal that a `Book` can meet: it has the ring's and the buffers' lengths right (23, 33), is never closed or
 # damaged (10), and its ring is its own (22).
 MET = (11, 12, 13, 14, 15, 16, 17, 18, 19, 20, 21, 24, 25, 26, 27, 30, 31, 32)
+# Caps and floors with the factors of a route, the source's link first, at whose end a ten-thousandth of a cent on the
+# way, or another way to round a half, makes another cent.
+CAPS = {1: (10_001, 20_000), 3_751: (15_001,), 4: (13_334, 20_000), 8: (16_308, 14_016), 37: (10_137,),
+        71: (12_800, 15_969, 14_781), 60_000: (10_800, 10_300, 10_300)}
+FLOORS = {-1: (15_000,), -2: (16_250, 13_846), -7: (17_500, 15_102), -16: (15_854, 14_893, 19_191),
+          -77: (15_000, 14_329), -8_161: (15_000, 15_625, 19_200), -60_001: (10_507, 10_507, 10_507)}
+
+
+class Cents(Ledger):
+    """A ledger that is wrong: each of its links rounds to the cent."""
+
+    given = staticmethod(nearest)
 
 
 def outcome(call, *arguments):
@@ -42,7 +55,7 @@ def random_threshold(dice):
 
 
 def random_limits(dice):
-    return dice.choice((1, 30_000, 60_000, 60_001)), dice.choice((-1, -30_000, -60_000, -60_001))
+    return dice.choice((1, 30_000, 60_000, 60_001, *CAPS)), dice.choice((-1, -30_000, -60_000, -60_001, *FLOORS))
 
 
 def random_price(dice, energy):
@@ -63,17 +76,41 @@ def bad_settings(dice):
     return Settings(**{**good, name: dice.choice(values)})
 
 
+def random_prices(dice, settings):
+    """Each of its own; in every other entry energy is high everywhere, low everywhere, or high in region 0 alone."""
+    markets = settings.services + 1
+    prices = [random_price(dice, place % markets == 0) for place in range(settings.regions * markets)]
+    if dice.random() < 0.5:
+        high, low = dice.choice((120_000, 250_010)), dice.choice((-1, -90_000, -200_000))
+        energies = dice.choice(([high] * settings.regions, [low] * settings.regions, [high] + [0] * settings.regions))
+        prices[::markets] = energies[:settings.regions]
+    return prices
+
+
+def random_flows(dice, settings):
+    flows = [dice.choice((-2**31, -1, 0, 1, 2**31 - 1)) for _ in range(settings.regions)]
+    return dice.choice((flows, flows, [1] * settings.regions, [-1] * settings.regions))
+
+
+def random_factors(dice, settings):
+    """Each of its own, or those that tie with the cap or the floor, again and again."""
+    factors = [dice.choice((10_000, 10_001, 10_800, 15_000, 20_000)) for _ in range(settings.regions)]
+    ties = [ties[limit] for ties, limit in ((CAPS, settings.cap), (FLOORS, settings.floor)) if limit in ties]
+    if not ties or dice.random() < 0.3:
+        return factors
+    return [10_000, *dice.choice(ties) * 8][:settings.regions]
+
+
 def random_entry(dice, settings, number):
     """An entry's number, day kind, prices, marks, flows, factors and schedule, none of which is refused."""
-    markets = settings.services + 1
-    places, regions = settings.regions * markets, range(settings.regions)
+    places = settings.regions * (settings.services + 1)
     return [
         number,
         dice.randrange(2),
-        [random_price(dice, place % markets == 0) for place in range(places)],
-        [int(dice.random() < 0.15) for _ in regions],
-        [dice.choice((-2**31, -1, 0, 1, 2**31 - 1)) for _ in regions],
-        [dice.choice((10_000, 10_001, 10_800, 15_000, 20_000)) for _ in regions],
+        random_prices(dice, settings),
+        [int(dice.random() < 0.15) for _ in range(settings.regions)],
+        random_flows(dice, settings),
+        random_factors(dice, settings),
         [random_price(dice, True) for _ in range(places * 2 * settings.halves)],
     ]
 
@@ -174,8 +211,8 @@ class Calls:
         return answer
 
     def enter(self):
-        number = self.ledger.marked + self.ledger.taken
-        entry = random_entry(self.dice, self.settings, number)
+        number, now = self.ledger.marked + self.ledger.taken, self.ledger.settings[-1]
+        entry = random_entry(self.dice, replace(self.settings, cap=now.cap, floor=now.floor), number)
         while self.dice.random() < 0.3:
             damage(self.dice, entry)
         answer = self.on_both("enter", *entry)
@@ -192,6 +229,13 @@ class Calls:
             self.met["bound"] += not before and not entry.marks[region] and table[place] != entry.prices[place]
             self.met["begun"] += after and not before
             self.met["ended"] += before and not after
+        self.met["another cent"] += self.in_cents(entry) != table
+
+    def in_cents(self, entry):
+        """What the accepted entry would have published, if limits were passed on in cents."""
+        cents = Cents(self.settings, self.ledger.marked)
+        cents.entries, cents.settings = self.ledger.entries[:-1], self.ledger.settings
+        return cents.published(entry, cents.effective(entry))
 
     def set_threshold(self):
         bounds = (0, 1, 100_000_000_000, 100_000_000_001, -2**63)
@@ -256,7 +300,7 @@ class RandomCalls(unittest.TestCase):
         calls = Calls(self)
         while calls.calls < CALLS:
             calls.play()
-        for what in ("accepted", "marked", "bound", "begun", "ended", *MET):
+        for what in ("accepted", "marked", "bound", "another cent", "begun", "ended", *MET):
             self.assertGreaterEqual(calls.met[what], 10, what)
         self.assertEqual({what for what in calls.met if isinstance(what, int)}, set(MET))
         phases = {(window, count, count) for window in WINDOWS for count in range(window)}

@@ -15,7 +15,7 @@ from test_random import outcome, random_entry, random_price, random_settings, ra
 from test_random_intervals import damaged_book
 
 SEED = 7
-QUESTIONS = 12_000
+QUESTIONS = 14_000
 WINDOWS = (1, 2, 3, 4, 6, 9)
 LONG = (30, 45)  # beside these; a list of calls turns them round too
 MOST_PLACES = 1_000  # of a ring that is made for a damaged book
