@@ -1,6 +1,6 @@
 /* Holds the typed calls to others: lists of calls to guxhamole_replay; loads and stores, the schedule maker and the amount text to
-   the independent code; and books that were damaged, are full or have a wrong sum to the refusals that they must meet. Guards
-   stand round all that is lent. All from a fixed seed. Exit status 1 with the case at the first difference. Given a number, it
+   the independent code; books that were damaged, are full or have a wrong sum to the refusals that they must meet; and limits over
+   links to cases worked by hand. Guards stand round all that is lent. All from a fixed seed. Exit status 1 with the case at the first difference. Given a number, it
    does that part of it alone: `typed_test 10` a tenth, for slow checkers. */
 #include "guarded.h"
 #include "guxhamole.h"
@@ -222,6 +222,33 @@ static void full_book(void)
     guarded_free();
 }
 
+/* Request 2026-04 of document 02, three links: of regions in a row the first one's energy is administered at entry 1. */
+static const struct passed_on {
+    int32_t cap, floor, price, flow;
+    uint32_t factors[4];
+    int32_t published[4];
+} passed_on[] = {{60000, -60000, 100000, 1, {0, 10800, 10300, 10300}, {60000, 55556, 53937, 52366}},
+                 {60000, -60001, -100000, -1, {0, 10507, 10507, 10507}, {-60001, -63043, -66239, -69598}}};
+
+static void pass_on(const struct passed_on *passed)
+{
+    static const uint8_t marks[4] = {0};
+    static const int32_t still[4] = {0}, schedule[8] = {0}, first[4] = {100000, 0, 0, 0};
+    guxhamole_settings settings = {4, 0, 1, 1, 0, {255, 0, 1, 2, 255, 255, 255, 255}, 95000, passed->cap, passed->floor};
+    int32_t *ring = (int32_t *)guarded(16), *table = (int32_t *)guarded(16), prices[4], flows[4];
+    for (size_t region = 0; region < 4; region++) {
+        prices[region] = passed->price;
+        flows[region] = passed->flow;
+    }
+    guxhamole_book book = guxhamole_open(settings, ring, 4).book;
+    book = guxhamole_enter(book, ring, 4, 0, 0, first, 4, marks, 4, still, 4, passed->factors, 4, schedule, 8, table, 4).book;
+    guxhamole_entered entered =
+        guxhamole_enter(book, ring, 4, 1, 0, prices, 4, marks, 4, flows, 4, passed->factors, 4, schedule, 8, table, 4);
+    if (entered.number != 0 || entered.count != 4 || memcmp(table, passed->published, 16) != 0 || !guarded_whole())
+        differs(passed->flow > 0 ? "a cap over three links" : "a floor over three links", 0);
+    guarded_free();
+}
+
 static void any_making(int32_t *prices, uint8_t *kinds)
 {
     uint64_t from = seed;
@@ -299,6 +326,8 @@ int main(int count, char **words)
     images();
     damaged_books();
     full_book();
+    for (size_t i = 0; i < sizeof passed_on / sizeof *passed_on; i++)
+        pass_on(&passed_on[i]);
     schedules();
     amounts();
     printf("%d lists of %ld calls alike: %ld entries (%ld accepted, %ld prices changed), %ld restarts; refusals", LISTS / part,

@@ -364,7 +364,7 @@ fn passed_on_limits_are_near() {
             }
         }
         say(&format!("passed-on {name}: {near:?}"));
-        assert!(near.bound >= 50_000 && near.above_half >= 100);
+        assert!(near.bound >= 60_000 && near.above_half >= 100);
         assert!(near.farthest > 500_100 && (near.beyond > 1_000) == (side < 0));
     }
 }
