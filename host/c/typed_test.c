@@ -1,7 +1,7 @@
 /* Holds the typed calls to others: lists of calls to guxhamole_replay; loads and stores, the schedule maker and the amount text to
    the independent code; books that were damaged, are full or have a wrong sum to the refusals that they must meet; and limits over
-   links to cases worked by hand. Guards stand round all that is lent. All from a fixed seed. Exit status 1 with the case at the first difference. Given a number, it
-   does that part of it alone: `typed_test 10` a tenth, for slow checkers. */
+   links to cases worked by hand. Guards stand round all that is lent. All from a fixed seed. Exit status 1 with the case at the
+   first difference. Given a number, it does that part of it alone: `typed_test 10` a tenth, for slow checkers. */
 #include "guarded.h"
 #include "guxhamole.h"
 #include "independent.h"
