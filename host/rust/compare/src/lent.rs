@@ -1,20 +1,62 @@
 //! Memory that is lent to a compiled function, with guards before and behind it.
 
+use generator::Random;
+
 /// What guards, and memory that is not yet written to, hold.
 pub trait Fill: Copy + PartialEq {
     const FILL: Self;
+
+    /// Any value.
+    fn of_word(word: u64) -> Self;
 }
 
 impl Fill for u8 {
     const FILL: u8 = 0xA5;
+
+    fn of_word(word: u64) -> u8 {
+        word as u8
+    }
 }
 
 impl Fill for i32 {
     const FILL: i32 = 0x5A5A_5A5A;
+
+    fn of_word(word: u64) -> i32 {
+        word as i32
+    }
 }
 
 impl Fill for u32 {
     const FILL: u32 = 0x5A5A_5A5A;
+
+    fn of_word(word: u64) -> u32 {
+        word as u32
+    }
+}
+
+/// Where a host takes the memory that it lends to be written: filled as guards are, or with any contents, from a seed.
+#[derive(Clone, Debug)]
+pub struct Memory {
+    contents: Option<Random>,
+}
+
+impl Memory {
+    pub const FILLED: Memory = Memory { contents: None };
+
+    pub fn with_any_contents(seed: u64) -> Memory {
+        Memory {
+            contents: Some(Random::new(seed)),
+        }
+    }
+
+    /// A slice of a length.
+    pub fn lend<T: Fill>(&mut self, length: usize) -> Lent<T> {
+        let mut lent = Lent::filled(length);
+        if let Some(random) = &mut self.contents {
+            lent.slice_mut().fill_with(|| T::of_word(random.word()));
+        }
+        lent
+    }
 }
 
 /// How much memory stands on either side, to see that nothing is written there.

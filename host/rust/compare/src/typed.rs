@@ -1,6 +1,6 @@
 //! Calls through the crate `guxhamole` beside the independent book: every answer, the book, its ring and everything lent.
 
-use crate::lent::{Fill, Lent};
+use crate::lent::{Fill, Lent, Memory};
 use guxhamole::{raw, Book, Settings};
 use independent::book::Book as Paper;
 use independent::ledger::Entry;
@@ -76,6 +76,8 @@ pub struct Pair {
     ring: Lent<i32>,
     paper: Paper,
     paper_ring: Vec<i32>,
+    /// Where rings and buffers come from.
+    memory: Memory,
     /// Calls made, since a long ring is not looked at after each of them.
     turn: usize,
 }
@@ -91,6 +93,7 @@ impl Pair {
             ring: Lent::of(ring),
             paper: paper(&book),
             paper_ring: ring.to_vec(),
+            memory: Memory::FILLED,
             turn: 0,
         }
     }
@@ -115,7 +118,16 @@ impl Pair {
         opening: &Opening,
         ring_length: usize,
     ) -> Result<Result<Pair, Refusal>, Difference> {
-        let mut ring = Lent::filled(ring_length);
+        Pair::open_in(Memory::FILLED, opening, ring_length)
+    }
+
+    /// Likewise, with a ring, and from then on other rings and buffers, from a memory.
+    pub fn open_in(
+        mut memory: Memory,
+        opening: &Opening,
+        ring_length: usize,
+    ) -> Result<Result<Pair, Refusal>, Difference> {
+        let mut ring = memory.lend(ring_length);
         let mut paper_ring = ring.slice().to_vec();
         let opened = told(Book::open(settings(opening), ring.slice_mut()));
         let paper = Paper::open(opening, &mut paper_ring);
@@ -127,12 +139,20 @@ impl Pair {
             closed(&kept, verdict(&paper))?;
             same(ring.holds(&paper_ring), "ring after a refused opening")?;
         }
-        Pair::begun(opened, ring, paper, paper_ring)
+        Pair::begun(opened, ring, paper, paper_ring, memory)
     }
 
     /// Loads both from an image into a ring of a length: the pair, or the refusal that both met.
     pub fn load(image: &[u8], ring_length: usize) -> Result<Result<Pair, Refusal>, Difference> {
-        let mut ring = Lent::filled(ring_length);
+        Pair::load_in(Memory::FILLED, image, ring_length)
+    }
+
+    fn load_in(
+        mut memory: Memory,
+        image: &[u8],
+        ring_length: usize,
+    ) -> Result<Result<Pair, Refusal>, Difference> {
+        let mut ring = memory.lend(ring_length);
         let mut paper_ring = ring.slice().to_vec();
         let lent = Lent::of(image);
         let loaded = told(Book::load(lent.slice(), ring.slice_mut()));
@@ -145,7 +165,7 @@ impl Pair {
             closed(&kept, verdict(&paper))?;
             same(ring.holds(&paper_ring), "ring after a refused load")?;
         }
-        Pair::begun(loaded, ring, paper, paper_ring)
+        Pair::begun(loaded, ring, paper, paper_ring, memory)
     }
 
     fn begun(
@@ -153,6 +173,7 @@ impl Pair {
         ring: Lent<i32>,
         paper: Result<Paper, Refusal>,
         paper_ring: Vec<i32>,
+        memory: Memory,
     ) -> Result<Result<Pair, Refusal>, Difference> {
         let (book, paper) = match (book, paper) {
             (Ok(book), Ok(paper)) => (book, paper),
@@ -163,6 +184,7 @@ impl Pair {
             ring,
             paper,
             paper_ring,
+            memory,
             turn: 0,
         };
         pair.kept_alike()?;
@@ -258,7 +280,7 @@ impl Pair {
         let mut published = Lent::of(table);
         let mut paper_table = table.to_vec();
         let own = ring == self.paper_ring.len();
-        let mut other = Lent::filled(if own { 0 } else { ring });
+        let mut other = self.memory.lend(if own { 0 } else { ring });
         let mut paper_other = other.slice().to_vec();
         let (lent, paper_lent) = if own {
             (&mut self.ring, &mut self.paper_ring)
@@ -296,7 +318,7 @@ impl Pair {
 
     /// A store into a buffer of a length, and a load from exactly the image's bytes into another ring of a length.
     fn restart(&mut self, buffer: usize, ring_length: usize) -> Result<Answer, Difference> {
-        let mut image = Lent::filled(buffer);
+        let mut image = self.memory.lend(buffer);
         let mut paper_image = image.slice().to_vec();
         let stored = told(self.book.store(self.ring.slice(), image.slice_mut()));
         let expected = self.paper.store(&self.paper_ring, &mut paper_image);
@@ -314,7 +336,8 @@ impl Pair {
             }
         };
         same(length == self.book.stored_length(), "image's length")?;
-        let loaded = Pair::load(&image.slice()[..length], ring_length)?;
+        let memory = self.memory.clone();
+        let loaded = Pair::load_in(memory, &image.slice()[..length], ring_length)?;
         let loaded = loaded.map(|pair| {
             *self = Pair {
                 turn: self.turn,
