@@ -1,6 +1,7 @@
-//! Makes a failing image or list of calls as short as cutting makes it.
+//! Makes a failing image, list of calls or pair of lists as short as cutting makes it.
 
 use crate::playing;
+use crate::twins::Twins;
 use generator::images::mend_length;
 use generator::lists::{answer_length, List};
 use independent::{ledger, Call};
@@ -128,42 +129,117 @@ fn plainer(list: List, fails: impl Fn(&List) -> bool) -> List {
     best
 }
 
+/// The calls without some: the later entries' numbers lower by the entries cut out, or as they were.
+fn without(calls: &[Call], start: usize, width: usize) -> [Vec<Call>; 2] {
+    let end = (start + width).min(calls.len());
+    let mut plain = calls.to_vec();
+    let cut = plain.drain(start..end);
+    let entries = cut.filter(|call| matches!(call, Call::Entry(..))).count() as u32;
+    let mut mended = plain.clone();
+    for call in &mut mended[start..] {
+        if let Call::Entry(entry, ..) = call {
+            entry.number = entry.number.wrapping_sub(entries);
+        }
+    }
+    [mended, plain]
+}
+
+/// What makes a whole slice of an entry plain.
+const PLAIN: [fn(&mut ledger::Entry); 5] = [
+    |entry| entry.schedule.fill(0),
+    |entry| entry.flows.fill(0),
+    |entry| entry.factors.fill(10_000),
+    |entry| entry.marks.fill(0),
+    |entry| entry.prices.fill(0),
+];
+
+fn make_plain(call: &mut Call, step: fn(&mut ledger::Entry)) {
+    if let Call::Entry(entry, ..) = call {
+        step(entry);
+    }
+}
+
+/// What is left of something once each step that makes slices plain is taken where it still fails; `take` takes one.
+fn plain<L: Clone>(
+    whole: L,
+    take: impl Fn(&mut L, fn(&mut ledger::Entry)),
+    fails: impl Fn(&L) -> bool,
+) -> L {
+    let mut best = whole;
+    for step in PLAIN {
+        let mut tried = best.clone();
+        take(&mut tried, step);
+        if fails(&tried) {
+            best = tried;
+        }
+    }
+    best
+}
+
 /// The shortest typed list found, by cutting calls out and making entries plainer, that still fails.
 pub fn shortest_calls(
     list: &playing::List,
     fails: impl Fn(&playing::List) -> bool,
 ) -> playing::List {
-    let without = |list: &playing::List, start: usize, width: usize| {
-        let end = (start + width).min(list.calls.len());
-        let mut plain = list.clone();
-        let cut = plain.calls.drain(start..end);
-        let entries = cut.filter(|call| matches!(call, Call::Entry(..))).count() as u32;
-        let mut mended = plain.clone();
-        for call in &mut mended.calls[start..] {
-            if let Call::Entry(entry, ..) = call {
-                entry.number = entry.number.wrapping_sub(entries);
-            }
-        }
-        vec![mended, plain]
+    let cut_out = |list: &playing::List, start: usize, width: usize| {
+        let cuts = without(&list.calls, start, width).map(|calls| playing::List {
+            calls,
+            ..list.clone()
+        });
+        cuts.to_vec()
     };
-    let mut best = cut_down(list, |list| list.calls.len(), without, &fails);
-    let steps: [fn(&mut ledger::Entry); 5] = [
-        |entry| entry.schedule.fill(0),
-        |entry| entry.flows.fill(0),
-        |entry| entry.factors.fill(10_000),
-        |entry| entry.marks.fill(0),
-        |entry| entry.prices.fill(0),
-    ];
+    let mut best = cut_down(list, |list| list.calls.len(), cut_out, &fails);
     for place in 0..best.calls.len() {
-        for step in steps {
-            let mut tried = best.clone();
-            if let Call::Entry(entry, ..) = &mut tried.calls[place] {
-                step(entry);
-            }
-            if fails(&tried) {
-                best = tried;
-            }
-        }
+        let take = |list: &mut playing::List, step| make_plain(&mut list.calls[place], step);
+        best = plain(best, take, &fails);
     }
     best
+}
+
+/// The shortest twins found, by cutting the same places out of both lists, making calls the same and entries plainer, that still fail.
+pub fn shortest_twins(twins: &Twins, fails: impl Fn(&Twins) -> bool) -> Twins {
+    let length = |twins: &Twins| twins.lists[0].calls.len();
+    let mut best = cut_down(twins, length, places_cut_out, &fails);
+    for place in 0..length(&best) {
+        best = same_call(best, place, &fails);
+        best = plain_place(best, place, &fails);
+    }
+    best
+}
+
+/// The twins with the first list's call at a place in the second one too, or the other way round, where they still fail.
+fn same_call(twins: Twins, place: usize, fails: impl Fn(&Twins) -> bool) -> Twins {
+    let ways = [0, 1].map(|from| {
+        let mut same = twins.clone();
+        same.lists[1 - from].calls[place] = twins.lists[from].calls[place].clone();
+        same
+    });
+    ways.into_iter().find(fails).unwrap_or(twins)
+}
+
+/// The twins with whole slices of a place's entries plain, in both lists or in one, where they still fail.
+fn plain_place(twins: Twins, place: usize, fails: impl Fn(&Twins) -> bool) -> Twins {
+    let mut best = twins;
+    for lists in [0..2, 0..1, 1..2] {
+        let take = |twins: &mut Twins, step| {
+            let lists = &mut twins.lists[lists.clone()];
+            lists
+                .iter_mut()
+                .for_each(|list| make_plain(&mut list.calls[place], step));
+        };
+        best = plain(best, take, &fails);
+    }
+    best
+}
+
+/// The twins without some places, numbers mended in both or as they were.
+fn places_cut_out(twins: &Twins, start: usize, width: usize) -> Vec<Twins> {
+    let cut = |way: usize| {
+        let mut cut = twins.clone();
+        for list in &mut cut.lists {
+            list.calls = without(&list.calls, start, width)[way].clone();
+        }
+        cut
+    };
+    vec![cut(0), cut(1)]
 }

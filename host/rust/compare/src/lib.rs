@@ -3,11 +3,14 @@
 pub mod books;
 pub mod cutting;
 pub mod intervals;
+pub mod isolation;
 pub mod left;
 pub mod lent;
 pub mod limits;
+pub mod machines;
 pub mod playing;
 pub mod replay;
+pub mod twins;
 pub mod typed;
 
 use std::io::Write;

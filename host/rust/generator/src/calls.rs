@@ -17,7 +17,7 @@ pub fn ring_length(opening: &Opening) -> usize {
 }
 
 /// Limits: the guide's, small ones at which rounding shows, the least and the most, and those that tie.
-fn limits(random: &mut Random) -> (i32, i32) {
+pub fn limits(random: &mut Random) -> (i32, i32) {
     let cap = match random.chance(50) {
         true => ties::cap(random),
         false => random.pick(&[60_000, 60_000, 60_001, 1, 2, 7, 10_000_000]),
@@ -41,7 +41,7 @@ fn threshold(random: &mut Random, cap: i32) -> i64 {
 }
 
 /// The regions' parents: mostly any lower ones, else those before them, so that limits go over many links.
-fn parents(random: &mut Random, regions: u32) -> [u8; 8] {
+pub fn parents(random: &mut Random, regions: u32) -> [u8; 8] {
     let mut parents = [NO_PARENT; 8];
     let in_a_row = random.chance(40);
     let linkable = parents.iter_mut().enumerate().take(regions as usize);
@@ -177,7 +177,8 @@ fn price(random: &mut Random, ledger: &Ledger, market: usize) -> i32 {
     }
 }
 
-fn any_number(random: &mut Random) -> i32 {
+/// Any number, often a bound of what is allowed or one past it.
+pub fn any_number(random: &mut Random) -> i32 {
     let most = 10_000_000;
     let menu = [i32::MIN, -most - 1, -1, 0, 1, most + 1, i32::MAX];
     if random.chance(50) {
@@ -464,7 +465,7 @@ pub fn next_threshold(random: &mut Random, ledger: &Ledger) -> i64 {
 }
 
 /// A restart: mostly a long enough buffer and the right ring, else one or both wrong.
-fn restart(random: &mut Random, ledger: &Ledger) -> Call {
+pub fn restart(random: &mut Random, ledger: &Ledger) -> Call {
     let (image, ring) = (ledger.image().len(), ledger.shape().ring());
     let buffer = if random.chance(80) {
         image + random.pick(&[0, 0, 1, 40])
