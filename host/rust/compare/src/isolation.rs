@@ -52,9 +52,12 @@ impl Played {
 
 fn reports(pair: &mut Pair, region: usize) -> Result<Reports, Difference> {
     let markets = 0..=pair.kept().0.services.into();
-    let report = |market| match pair.call(&Call::Report(region as u32, market))?.values {
-        Values::Report(report) => Ok(report),
-        values => Err(format!("a report's answer: {values:?}")),
+    let report = |market| {
+        let answer = pair.call(&Call::Report(region as u32, market))?;
+        match (answer.number, answer.values) {
+            (0, Values::Report(report)) => Ok(report),
+            answer => Err(format!("a report's answer: {answer:?}")),
+        }
     };
     markets.map(report).collect()
 }
@@ -84,8 +87,13 @@ pub fn difference(twins: &Twins) -> Option<Difference> {
     };
     let [one, other] = &played;
     let place = first_difference(&one.reports, &other.reports)?;
-    let reports = (&one.reports[place], &other.reports[place]);
-    supposed(twins, &played).then(|| format!("the reports after {place} calls: {reports:?}"))
+    let markets = one.reports[place].iter().zip(&other.reports[place]);
+    let differing: Vec<_> = markets
+        .enumerate()
+        .filter(|(_, (one, other))| one != other)
+        .collect();
+    supposed(twins, &played)
+        .then(|| format!("the reports after {place} calls, by market: {differing:?}"))
 }
 
 /// Says the shortest twins found by cutting that show a difference, as `shows` finds it.

@@ -128,15 +128,17 @@ impl Machine {
     }
 
     fn enter(&mut self, entry: &Entry) {
-        for (place, price) in self.joining(entry).into_iter().enumerate() {
-            self.markets[place].joined.extend(price);
+        let joining = self.joining(entry);
+        for (market, price) in self.markets.iter_mut().zip(joining) {
+            market.joined.extend(price);
         }
-        let next: Vec<bool> = (0..self.markets.len())
-            .map(|place| self.administered_next(place))
-            .collect();
-        for (market, administered) in self.markets.iter_mut().zip(next) {
-            market.administered = administered;
-        }
+        let places = 0..self.markets.len();
+        let next: Vec<bool> = places.map(|place| self.administered_next(place)).collect();
+        let marks = self
+            .markets
+            .iter_mut()
+            .map(|market| &mut market.administered);
+        marks.zip(next).for_each(|(mark, next)| *mark = next);
         self.position = (self.position + 1) % self.shape.day();
         self.taken += 1;
     }

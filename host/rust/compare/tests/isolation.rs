@@ -25,6 +25,7 @@ struct Met {
 }
 
 impl Met {
+    /// Something about twins, and whether it holds of them.
     fn note(&mut self, name: &'static str, holds: bool) {
         *self.times.entry(name).or_default() += u64::from(holds);
     }
@@ -125,12 +126,12 @@ impl Met {
             Values::Entry(_, table) => table[region * markets],
             values => panic!("{values:?}"),
         });
-        let own_mark = entries[0].marks[region] == 0;
-        let own_period = books[0].marks[11 * region] == 1;
         let otherwise = energy[0] != energy[1];
+        let unmarked = entries[0].marks[region] == 0;
+        let administered = books[0].marks[11 * region] == 1;
         self.note("published otherwise", otherwise);
-        self.note("published otherwise, unmarked", otherwise && own_mark);
-        let travelled = otherwise && own_mark && !own_period;
+        self.note("published otherwise, unmarked", otherwise && unmarked);
+        let travelled = otherwise && unmarked && !administered;
         self.note("published otherwise by a neighbour's limit", travelled);
     }
 
@@ -166,6 +167,26 @@ impl Met {
             *pairs += u64::from(places > 0);
             *all += places;
         }
+    }
+
+    fn say(&self) {
+        let Met {
+            calls,
+            reports,
+            times,
+            wrong,
+        } = self;
+        say(&format!(
+            "isolation: {calls} calls in each list, {reports} reports compared, {times:?}"
+        ));
+        say(&format!(
+            "isolation: twins, and their calls, after which a wrong machine's reports differ {wrong:?}"
+        ));
+    }
+
+    fn at_least(&self, name: &str, floor: u64) {
+        let times = self.times.get(name).copied().unwrap_or(0);
+        assert!(times >= floor, "{name}: met {times} times");
     }
 }
 
@@ -213,44 +234,32 @@ const FLOORS: [(&str, u64); 22] = [
 /// Wrong machines must show in so many pairs of lists, and after so many calls.
 const TOLD_APART: (u64, u64) = (150, 3_000);
 
-#[test]
-fn generated_twins() {
-    let mut met = Met::default();
-    let pairs = 2_000 * rounds();
-    for round in 0..rounds() {
-        let mut random = Random::new(0x70_0000 + round);
-        for _ in 0..2_000 {
-            let length = random.between(20, 100) as usize;
-            let twins = Twins::drawn(&mut random, length);
-            let played = met.twins(&twins);
-            met.machines(&twins, &played);
-        }
-    }
-    let Met {
-        calls,
-        reports,
-        times,
-        wrong,
-    } = met;
-    say(&format!(
-        "isolation: {pairs} pairs of lists, {calls} calls in each, {reports} reports compared"
-    ));
-    say(&format!("isolation: met {times:?}"));
-    say(&format!(
-        "isolation: pairs of lists, and calls, at which a wrong machine's reports differ {wrong:?}"
-    ));
-    assert!(calls >= 100_000);
-    for (name, floor) in FLOORS {
-        assert!(times[name] >= floor, "{name}: met {} times", times[name]);
-    }
-    for (name, _) in WRONG {
-        let (pairs, calls) = wrong[name];
-        let often = pairs >= TOLD_APART.0 && calls >= TOLD_APART.1;
-        assert!(often, "{name}: told apart too seldom");
+/// The twins of a round.
+fn round_of_twins(met: &mut Met, round: u64) {
+    let mut random = Random::new(0x70_0000 + round);
+    for _ in 0..2_000 {
+        let length = random.between(20, 100) as usize;
+        let twins = Twins::drawn(&mut random, length);
+        let played = met.twins(&twins);
+        met.machines(&twins, &played);
     }
 }
 
-/// Weeks of entries over windows of 2,016, now and then a restart or another threshold; and their twin.
+#[test]
+fn generated_twins() {
+    let mut met = Met::default();
+    (0..rounds()).for_each(|round| round_of_twins(&mut met, round));
+    met.say();
+    assert!(met.calls >= 100_000);
+    for (name, floor) in FLOORS {
+        met.at_least(name, floor);
+    }
+    let seldom = |(pairs, calls): (u64, u64)| pairs < TOLD_APART.0 || calls < TOLD_APART.1;
+    let too_seldom = WRONG.iter().find(|(name, _)| seldom(met.wrong[name]));
+    assert_eq!(too_seldom, None, "told apart too seldom");
+}
+
+/// Weeks of entries over windows of 2,016, now and then another threshold, restarts at first and at last; and their twin.
 fn weeks_of_twins(random: &mut Random) -> Twins {
     let opening = Opening {
         services: 1,
@@ -263,10 +272,10 @@ fn weeks_of_twins(random: &mut Random) -> Twins {
     let mut weeks = Weeks::new(random, &ledger);
     let (ring, prices) = (ledger.shape().ring(), ledger.shape().prices());
     let (mut calls, mut answers) = (Vec::new(), Vec::new());
-    for turn in 0..4_500 {
-        let call = match turn % 300 {
-            150 => Call::Restart(148 + 4 * ring, ring),
-            299 => Call::Threshold(random.between(19_000_000, 21_000_000)),
+    for turn in 0..5_500 {
+        let call = match turn {
+            1_000 | 5_250 | 5_300 | 5_400 => Call::Restart(148 + 4 * ring, ring),
+            _ if turn % 300 == 299 => Call::Threshold(random.between(19_000_000, 21_000_000)),
             _ => Call::Entry(weeks.entry(random, &ledger), ring, vec![0; prices]),
         };
         answers.push(ledger.call(&call));
@@ -281,22 +290,25 @@ fn weeks_of_twins(random: &mut Random) -> Twins {
     Twins { region: 1, lists }
 }
 
+/// How often the region's window turned round.
+fn turned(played: &Played, region: usize) -> usize {
+    let nexts = played.books.iter().map(|book| book.nexts[region]);
+    let after = nexts.clone().skip(1);
+    nexts.zip(after).filter(|pair| *pair == (2_015, 0)).count()
+}
+
 /// Windows of 2,016 that fill and turn round.
 #[test]
 fn widest_windows() {
     let mut met = Met::default();
     let played = met.twins(&weeks_of_twins(&mut Random::new(0x72_0001)));
-    let Met { calls, times, .. } = met;
+    assert_eq!(played.map(|played| turned(&played, 1)), [2, 2]);
+    let (calls, times) = (met.calls, &met.times);
     say(&format!(
         "isolation, widest windows: {calls} calls in each list, {times:?}"
     ));
-    for played in played {
-        let last = played.reports.last().expect("reports");
-        assert!(last
-            .iter()
-            .all(|report| report.counted == 2_016 && report.entries > 4_400));
-    }
-    assert!(times["periods begun"] >= 10 && times["periods ended"] >= 10);
+    met.at_least("periods begun", 10);
+    met.at_least("periods ended", 10);
 }
 
 /// A wrong machine is noticed, and cutting finds short lists that show it and still tell the region the same.
