@@ -68,7 +68,7 @@ heard markets region [] l = []
 heard markets region (c ∷ L) [] = []
 heard markets region (c ∷ L) (a ∷ l) = pick (isAccepted (verdictIn a)) (told markets region c) of-refusal ∷ heard markets region L l
 
--- a book opened over a ring, by an accepted call. "Eight parent bytes" is what the type of the settings says
+-- a book opened over a ring, by an accepted call; that there are "eight parent bytes" is what the type of the settings says
 pub record Opens (s : Settings) (ring : List ℤ) : Type 0 where
   pub parents : length (s .parents) ≡ 8
   pub verdict : opened s ring .verdict .number ≡ 0
