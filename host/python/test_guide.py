@@ -28,7 +28,7 @@ class Stage:
         try:
             return call(*arguments)
         except Refusal as refusal:
-            where = f" at {refusal.place}" if refusal.place else ""
+            where = "" if refusal.place is None else f" at {refusal.place}"
             self.printed.append(f"{name} refused {refusal.number}{where}")
             return None
 
