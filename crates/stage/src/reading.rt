@@ -49,28 +49,28 @@ fn line_at(text: &[u8], at: usize) -> &[u8] {
 }
 
 // A number with one more digit, where there is room for any.
-fn longer(n: u32, b: u8) -> u32 {
-    if n > 400000000 {
+fn longer(n: u64, b: u8) -> u64 {
+    if n > 400000000000 {
         return n;
     }
     if b < 48 {
         return n;
     }
-    n * 10 + (b - 48) as u32
+    n * 10 + (b - 48) as u64
 }
 
 // A number in a line, and the place after it; none is found where the line ends first.
 struct Found {
     found: bool,
     minus: bool,
-    value: u32,
+    value: u64,
     end: usize,
 }
 
 fn next_number(text: &[u8], at: usize) -> Found {
     let mut found = false;
     let mut minus = false;
-    let mut value: u32 = 0;
+    let mut value: u64 = 0;
     let mut i = at;
     while i < text.len() {
         let b = text[i];
@@ -93,6 +93,14 @@ fn next_number(text: &[u8], at: usize) -> Found {
     }
 }
 
+// The number in 32 bits, the greatest for those beyond.
+fn narrow(n: u64) -> u32 {
+    if n > 4294967295 {
+        return 4294967295;
+    }
+    n as u32
+}
+
 // A number below zero, the least for those beyond.
 fn negative(n: u32) -> i32 {
     if n > 2147483647 {
@@ -110,9 +118,33 @@ fn positive(n: u32) -> i32 {
 
 fn signed(t: Found) -> i32 {
     if t.minus {
-        return negative(t.value);
+        return negative(narrow(t.value));
     }
-    positive(t.value)
+    positive(narrow(t.value))
+}
+
+// A number in cents, at most ten times what a threshold may be.
+fn cents(minus: bool, n: u64) -> i64 {
+    if n > 1000000000000 {
+        return 1000000000000;
+    }
+    if minus {
+        return -(n as i64);
+    }
+    n as i64
+}
+
+// The threshold in a line, after so many other numbers.
+pub fn threshold(text: &[u8], at: usize, others: usize) -> i64 {
+    let mut k: usize = 0;
+    let mut i = at;
+    while k < others {
+        let t = next_number(text, i);
+        i = t.end;
+        k += 1;
+    }
+    let t = next_number(text, i);
+    cents(t.minus, t.value)
 }
 
 // The numbers of a line, as many as there is room for, and how many they are.
@@ -127,7 +159,7 @@ pub fn numbers(text: &[u8], at: usize, list: &mut [u32]) -> usize
         if !t.found {
             return k;
         }
-        list[k] = t.value;
+        list[k] = narrow(t.value);
         i = t.end;
         k += 1;
     }
@@ -165,7 +197,7 @@ pub fn bytes(text: &[u8], at: usize, list: &mut [u8]) -> usize
         if !t.found {
             return k;
         }
-        list[k] = byte(t.value);
+        list[k] = byte(narrow(t.value));
         i = t.end;
         k += 1;
     }
@@ -185,10 +217,6 @@ fn wide(b: u8) -> u16 {
 
 pub fn size(n: u32) -> usize {
     n as usize
-}
-
-pub fn cents(n: i32) -> i64 {
-    n as i64
 }
 
 // So many of the places of a list as there are.
@@ -214,7 +242,7 @@ pub fn settings(text: &[u8], at: usize, parents_at: usize) -> Settings {
         halves: n[3],
         first: wide(n[4]),
         parents,
-        threshold: cents(z[5]),
+        threshold: threshold(text, at, 5),
         cap: z[6],
         floor: z[7],
     }

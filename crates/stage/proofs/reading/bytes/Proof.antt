@@ -26,6 +26,9 @@ same-length c = search needs
 returns : tie.Need-returns Inv-loop μ-loop
 returns c = (omega arith, sym (length-take-le _ _ (omega arith)))
 
+narrow-requires : tie.Need-narrow-requires Inv-loop μ-loop
+narrow-requires c κs = search needs
+
 byte-requires : tie.Need-byte-requires Inv-loop μ-loop
 byte-requires c κs = search needs
 
@@ -57,6 +60,7 @@ bytes-spec =
     next-number-requires
     same-length
     returns
+    narrow-requires
     byte-requires
     slice-write-list
     add-k

@@ -26,6 +26,9 @@ same-length c = search needs
 returns : tie.Need-returns Inv-loop μ-loop
 returns c = (omega arith, sym (length-take-le _ _ (omega arith)))
 
+narrow-requires : tie.Need-narrow-requires Inv-loop μ-loop
+narrow-requires c κs = search needs
+
 mul-list : tie.Need-mul-list Inv-loop μ-loop
 mul-list c = search needs
 
@@ -57,6 +60,7 @@ numbers-spec =
     next-number-requires
     same-length
     returns
+    narrow-requires
     mul-list
     slice-write-list
     add-k
