@@ -6,7 +6,7 @@ use Rattle.laws.proofs.Tests.{and-assoc}
 use Rattle.pricing.specs.Holding.{limitsOk}
 use Rattle.book.specs.declared.record.Book.{Book}
 use Rattle.book.specs.declared.record.Refusal.{Refusal}
-use Rattle.book.specs.declared.record.Refusal.the-variants.{Invalid, Length, Full, Number, Kind, Mark, Price, Factor, Threshold, Limits, Setting, Market, Sums, Buffer, ImageLength, ImageKind, ImageField, ImageTotal, Broken, RecordKind, RecordRegion, PlannedPrice}
+use Rattle.book.specs.declared.record.Refusal.the-variants.{Invalid, Length, Full, Number, Kind, Mark, Price, Factor, Threshold, Limits, Setting, Market, Sums, Buffer, ImageLength, ImageKind, ImageField, ImageTotal, Broken, RecordKind, RecordRegion, PlannedPrice, Hundreds}
 use Rattle.book.specs.Record.{verdictOf, isAccepted}
 use Rattle.book.specs.Validity.{shapeOk, parentsOk, thresholdOk, regionsOk, placesOk, valid}
 
@@ -46,3 +46,4 @@ refusal-is Broken = refl
 refusal-is RecordKind = refl
 refusal-is RecordRegion = refl
 refusal-is PlannedPrice = refl
+refusal-is Hundreds = refl

@@ -60,6 +60,7 @@ pub enum Refusal {
     RecordKind,
     RecordRegion,
     PlannedPrice,
+    Hundreds,
 }
 
 // What a call that answers nothing else says.
@@ -117,6 +118,7 @@ pub fn number(refusal: Refusal) -> u32
         Refusal::RecordKind => 41,
         Refusal::RecordRegion => 42,
         Refusal::PlannedPrice => 43,
+        Refusal::Hundreds => 44,
     }
 }
 

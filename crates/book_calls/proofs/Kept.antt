@@ -18,31 +18,48 @@ use Rattle.book.specs.declared.record.Settings.{Settings}
 use Rattle.book.specs.Record.{closed, ringSize, isAccepted}
 use Rattle.book.specs.Validity.{parentOk, shapeOk, parentsOk, thresholdOk, valid}
 use Rattle.book_calls.specs.Opening.{openVerdict, fresh, opened}
-use Rattle.book_calls.specs.Setting.{thresholdVerdict, limitsVerdict, withSettings, Outcome, changed, setThreshold, setLimits}
+use Rattle.book_calls.specs.Setting.{inHundreds, thresholdVerdict, limitsVerdict, withSettings, Outcome, changed, setThreshold, setLimits}
 use Rattle.book_calls.specs.Report.{reportOf, reported}
 use Rattle.laws.proofs.Lists.{all-at}
 use Rattle.book.proofs.Validities.{parts, shape-is, parent-is, Valid, is-valid}
-use Rattle.book_calls.proofs.Ways.{settingsOk, ringOk}
-use Rattle.book.proofs.Passes.{passes-not}
+use Rattle.book_calls.proofs.Ways.{settingsOk, ringOk, open-0, threshold-0}
+use Rattle.book.proofs.Passes.{passes-not, passes-verdict}
 
 -- ---- rule 10 and the closed book
 pub closed-invalid : valid closed ≡ false
 unfolding valid
 closed-invalid = refl
 
+-- ---- thresholds that are taken
+pub threshold-is : (threshold : ℤ) → isAccepted (thresholdVerdict threshold) ≡ true → (thresholdOk threshold ≡ true) × (inHundreds threshold ≡ true)
+unfolding thresholdVerdict
+threshold-is threshold e =
+    let p = passes-not (thresholdOk threshold) (refused 18) _ refl e in
+    (p .0, passes-not (inHundreds threshold) (refused 44) accepted refl (p .1) .0)
+
+pub threshold-accepted : (threshold : ℤ) → isAccepted (thresholdVerdict threshold) ≡ true → thresholdVerdict threshold ≡ accepted
+threshold-accepted threshold e = let p = threshold-is threshold e in sym (threshold-0 threshold (p .0) (p .1))
+
 -- ---- opening
 zero-at : (r : ℕ) → r < 8 → _≡_ {A = ℕ} (getD (replicate 8 0) r 0) 0
 zero-at r h = getD-replicate 8 r 0 0 h
 
 module _ (s : Settings) (n : ℕ) (e : isAccepted (openVerdict s n) ≡ true) where
-  pub accepts : (settingsOk s ≡ true) × (n ≡ ringSize (s .regions) (s .services) (s .window)) × (thresholdOk (s .threshold) ≡ true) × (limitsOk (s .cap) (s .floor) ≡ true)
+  passed : (settingsOk s ≡ true) × (ringOk s n ≡ true) × (isAccepted (thresholdVerdict (s .threshold)) ≡ true) × (limitsOk (s .cap) (s .floor) ≡ true)
   unfolding openVerdict
-  accepts =
+  passed =
       let p = passes-not (settingsOk s) (refused 20) _ refl e in
       let q = passes-not (ringOk s n) (refused 11) _ refl (p .1) in
-      let t = passes-not (thresholdOk (s .threshold)) (refused 18) _ refl (q .1) in
+      let t = passes-verdict (thresholdVerdict (s .threshold)) _ (q .1) in
       let u = passes-not (limitsOk (s .cap) (s .floor)) (refused 19) _ refl (t .1) in
-      (p .0, eqb-true _ _ (q .0), t .0, u .0)
+      (p .0, q .0, t .0, u .0)
+
+  open-accepted : openVerdict s n ≡ accepted
+  open-accepted = sym (open-0 s n (passed .0) (passed .1) (passed .2) (passed .3))
+
+  pub accepts : (settingsOk s ≡ true) × (n ≡ ringSize (s .regions) (s .services) (s .window)) × (thresholdOk (s .threshold) ≡ true)
+      × (limitsOk (s .cap) (s .floor) ≡ true)
+  accepts = (passed .0, eqb-true _ _ (passed .1), threshold-is (s .threshold) (passed .2) .0, passed .3)
 
   shape : shapeOk (s .regions) (s .services) (s .window) (s .halves) (s .first) ≡ true
   shape = and-left (shapeOk (s .regions) (s .services) (s .window) (s .halves) (s .first)) (parentsOk (s .regions) (s .parents)) (accepts .0)
@@ -79,7 +96,13 @@ module _ (s : Settings) (n : ℕ) (e : isAccepted (openVerdict s n) ≡ true) wh
       }
 
 module _ (s : Settings) (ring : List ℤ) where
-  -- an opening that is accepted
+  -- an opening answers its verdict
+  pub opened-verdict : opened s ring .verdict ≡ openVerdict s (length ring)
+  unfolding opened
+  opened-verdict =
+      by-test (isAccepted (openVerdict s (length ring))) (λ t. rw t (sym (open-accepted s (length ring) t))) (λ t. rw t)
+
+  -- one that is accepted
   pub opened-is : isAccepted (opened s ring .verdict) ≡ true → (isAccepted (openVerdict s (length ring)) ≡ true) × (opened s ring .book ≡ fresh s) × (opened s ring .ring ≡ replicate (length ring) (pos 0))
   unfolding opened
   opened-is e = by-test (isAccepted (openVerdict s (length ring))) (λ h. (h, rw h, rw h)) (λ h. never _ (rw h at e) h)
@@ -128,9 +151,9 @@ module _ (b : Book) (v : Verdict) (threshold cap floor : ℤ) where
       (λ p. rw p (record { lent = λ e. never true refl (sym e); is = λ e. never true refl (sym e); kept = λ e. never true refl (sym e); back = λ e. refl; report = λ region market. refl }))
 
 pub threshold-sets : (b : Book) (threshold : ℤ) → Sets b (withSettings b threshold (b .cap) (b .floor)) (setThreshold b threshold)
-unfolding setThreshold thresholdVerdict
+unfolding setThreshold
 threshold-sets b threshold =
-    sets b (thresholdVerdict threshold) threshold (b .cap) (b .floor) (λ ok e. (passes-not (thresholdOk threshold) (refused 18) accepted refl e .0, parts b ok .3))
+    sets b (thresholdVerdict threshold) threshold (b .cap) (b .floor) (λ ok e. (threshold-is threshold e .0, parts b ok .3))
 
 pub limits-sets : (b : Book) (cap floor : ℤ) → Sets b (withSettings b (b .threshold) cap floor) (setLimits b cap floor)
 unfolding setLimits limitsVerdict

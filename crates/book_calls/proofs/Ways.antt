@@ -6,7 +6,7 @@ use Prim.Native.Nat.{ℕ}
 use lib.IntN.{ℤ, pos}
 use lib.ListN.{length, replicate}
 use lib.Dec.{eqb}
-use Rattle.pricing.specs.Verdict.{accepted, refused}
+use Rattle.pricing.specs.Verdict.{Verdict, accepted, refused}
 use Rattle.pricing.specs.Holding.{limitsOk}
 use Rattle.book.specs.declared.record.Book.{Book}
 use Rattle.book.specs.declared.record.Settings.{Settings}
@@ -17,7 +17,8 @@ use Rattle.book.specs.Record.{closed, ringSize, verdict, isAccepted}
 use Rattle.book.specs.Validity.{shapeOk, parentsOk, thresholdOk, valid}
 use Rattle.book.proofs.Ways.{refusal-is}
 use Rattle.book_calls.specs.Opening.{openVerdict, fresh, outcome, opened}
-use Rattle.book_calls.specs.Setting.{Outcome, thresholdVerdict, limitsVerdict, withSettings, setThreshold, setLimits}
+use Rattle.book_calls.specs.Setting as Setting
+use Rattle.book_calls.specs.Setting.{inHundreds, thresholdVerdict, limitsVerdict, withSettings, setThreshold, setLimits}
 
 -- ---- opening
 abbrev pub settingsOk : Settings → Bool
@@ -35,15 +36,19 @@ module _ (s : Settings) (ring : ℕ) where
   unfolding openVerdict
   open-11 a b = rw (a, b)
 
-  pub open-18 : settingsOk s ≡ true → ringOk s ring ≡ true → thresholdOk (s .threshold) ≡ false → refused 18 ≡ openVerdict s ring
+  -- 18 or 44, as the threshold's verdict says
+  pub open-threshold : settingsOk s ≡ true → ringOk s ring ≡ true → isAccepted (thresholdVerdict (s .threshold)) ≡ false
+      → thresholdVerdict (s .threshold) ≡ openVerdict s ring
   unfolding openVerdict
-  open-18 a b c = rw (a, b, c)
+  open-threshold a b c = rw (a, b, c)
 
-  pub open-19 : settingsOk s ≡ true → ringOk s ring ≡ true → thresholdOk (s .threshold) ≡ true → limitsOk (s .cap) (s .floor) ≡ false → refused 19 ≡ openVerdict s ring
+  pub open-19 : settingsOk s ≡ true → ringOk s ring ≡ true → isAccepted (thresholdVerdict (s .threshold)) ≡ true
+      → limitsOk (s .cap) (s .floor) ≡ false → refused 19 ≡ openVerdict s ring
   unfolding openVerdict
   open-19 a b c d = rw (a, b, c, d)
 
-  pub open-0 : settingsOk s ≡ true → ringOk s ring ≡ true → thresholdOk (s .threshold) ≡ true → limitsOk (s .cap) (s .floor) ≡ true → accepted ≡ openVerdict s ring
+  pub open-0 : settingsOk s ≡ true → ringOk s ring ≡ true → isAccepted (thresholdVerdict (s .threshold)) ≡ true
+      → limitsOk (s .cap) (s .floor) ≡ true → accepted ≡ openVerdict s ring
   unfolding openVerdict
   open-0 a b c d = rw (a, b, c, d)
 
@@ -60,13 +65,43 @@ module _ (s : Settings) (ring : List ℤ) (a : Answer) (h : verdict a ≡ openVe
       let n : isAccepted (openVerdict s (length ring)) ≡ true = rw (← h, e) refl in
       rw (n, e, q, z)
 
--- ---- settings: an accepted one, of numbers that are those lent
-pub threshold-0 : (b : Book) (threshold x : ℤ) → valid b ≡ true → thresholdOk threshold ≡ true → x ≡ threshold
-    → _≡_ {A = Outcome} (record { verdict = accepted; book = withSettings b x (b .cap) (b .floor) }) (setThreshold b threshold)
-unfolding setThreshold thresholdVerdict
-threshold-0 b threshold x v t e = rw (v, t, e)
+-- ---- the threshold of openings and settings
+module _ (threshold : ℤ) where
+  pub threshold-18 : thresholdOk threshold ≡ false → refused 18 ≡ thresholdVerdict threshold
+  unfolding thresholdVerdict
+  threshold-18 a = rw a
+
+  pub threshold-44 : thresholdOk threshold ≡ true → inHundreds threshold ≡ false → refused 44 ≡ thresholdVerdict threshold
+  unfolding thresholdVerdict
+  threshold-44 a b = rw (a, b)
+
+  pub threshold-0 : thresholdOk threshold ≡ true → inHundreds threshold ≡ true → accepted ≡ thresholdVerdict threshold
+  unfolding thresholdVerdict
+  threshold-0 a b = rw (a, b)
+
+-- an answer that is one of its two cases has a verdict that refuses, or accepts
+pub refused-by : (a : Answer) (v : Verdict) → verdict a ≡ v → (r : Refusal) → a ≡ Refused r → isAccepted v ≡ false
+refused-by a v h r e = rw (← h, e) (refusal-is r)
+
+pub accepted-by : (a : Answer) (v : Verdict) → verdict a ≡ v → a ≡ Accepted → isAccepted v ≡ true
+accepted-by a v h e = rw (← h, e) refl
+
+-- ---- settings of a book that rule 10 accepts
+module _ (b : Book) (ok : valid b ≡ true) where
+  -- of a threshold, as its verdict says
+  module _ (threshold : ℤ) (a : Answer) (h : verdict a ≡ thresholdVerdict threshold) where
+    pub threshold-refused : (r : Refusal) → a ≡ Refused r
+        → _≡_ {A = Setting.Outcome} (record { verdict = verdict a; book = b }) (setThreshold b threshold)
+    unfolding setThreshold
+    threshold-refused r e = rw (ok, refused-by a (thresholdVerdict threshold) h r e, h)
+
+    -- accepted, of a number that is the one lent
+    pub threshold-set : (x : ℤ) → a ≡ Accepted → x ≡ threshold
+        → _≡_ {A = Setting.Outcome} (record { verdict = verdict a; book = withSettings b x (b .cap) (b .floor) }) (setThreshold b threshold)
+    unfolding setThreshold
+    threshold-set x e q = rw (ok, accepted-by a (thresholdVerdict threshold) h e, e, q)
 
 pub limits-0 : (b : Book) (cap floor x y : ℤ) → valid b ≡ true → limitsOk cap floor ≡ true → x ≡ cap → y ≡ floor
-    → _≡_ {A = Outcome} (record { verdict = accepted; book = withSettings b (b .threshold) x y }) (setLimits b cap floor)
+    → _≡_ {A = Setting.Outcome} (record { verdict = accepted; book = withSettings b (b .threshold) x y }) (setLimits b cap floor)
 unfolding setLimits limitsVerdict
 limits-0 b cap floor x y v l d e = rw (v, l, d, e)

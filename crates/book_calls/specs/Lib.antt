@@ -1,3 +1,3 @@
-pub mod Opening
 pub mod Setting
+pub mod Opening
 pub mod Report

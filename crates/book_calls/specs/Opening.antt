@@ -12,14 +12,15 @@ use Rattle.book.specs.declared.record.Book.{Book}
 use Rattle.book.specs.declared.record.Settings.{Settings}
 use Rattle.book_calls.specs.declared.opening.Opened.{Opened}
 use Rattle.book.specs.Record.{closed, ringSize, verdict, isAccepted}
-use Rattle.book.specs.Validity.{shapeOk, parentsOk, thresholdOk}
+use Rattle.book.specs.Validity.{shapeOk, parentsOk}
+use Rattle.book_calls.specs.Setting.{thresholdVerdict}
 
--- "Open: 20 a setting; 11 ring length; 18 threshold; 19 cap or floor"
+-- "Open: 20 a setting; 11 ring length; 18 threshold; 19 cap or floor", and 44 "directly after 18"
 unfoldable pub openVerdict : Settings → ℕ → Verdict
 openVerdict s ring =
     pick (not (shapeOk (s .regions) (s .services) (s .window) (s .halves) (s .first) && parentsOk (s .regions) (s .parents))) (refused 20)
     (pick (not (eqb ring (ringSize (s .regions) (s .services) (s .window)))) (refused 11)
-    (pick (not (thresholdOk (s .threshold))) (refused 18)
+    (pick (not (isAccepted (thresholdVerdict (s .threshold)))) (thresholdVerdict (s .threshold))
     (pick (not (limitsOk (s .cap) (s .floor))) (refused 19)
     accepted)))
 

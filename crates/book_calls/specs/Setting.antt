@@ -1,6 +1,8 @@
 -- The threshold and limit settings of a running book. Assumes nothing.
-use mathlib.Core.Bool.{not}
-use lib.IntN.{ℤ}
+use mathlib.Core.Bool.{Bool, not}
+use Prim.Native.Nat.{_%_}
+use lib.Dec.{eqb}
+use lib.IntN.{ℤ, natAbs}
 use Rattle.laws.specs.Base.{pick}
 use Rattle.pricing.specs.Verdict.{Verdict, accepted, refused}
 use Rattle.pricing.specs.Holding.{limitsOk}
@@ -9,9 +11,17 @@ use Rattle.book_calls.specs.declared.setting.Changed.{Changed}
 use Rattle.book.specs.Record.{verdict, isAccepted}
 use Rattle.book.specs.Validity.{thresholdOk, valid}
 
--- "Settings: 10; 18 or 19": what follows 10
+-- "Opening and setting should take only multiples of 10,000 cents" (request 2026-06): whole hundreds of dollars
+abbrev pub inHundreds : ℤ → Bool
+inHundreds threshold = eqb (natAbs threshold % 10000) 0
+
+-- "44: a threshold within range but no multiple of 10,000; directly after 18": of openings and settings alike. "Settings: 10; 18 or 19":
+-- this and the next are what follows 10
 unfoldable pub thresholdVerdict : ℤ → Verdict
-thresholdVerdict threshold = pick (not (thresholdOk threshold)) (refused 18) accepted
+thresholdVerdict threshold =
+    pick (not (thresholdOk threshold)) (refused 18)
+    (pick (not (inHundreds threshold)) (refused 44)
+    accepted)
 
 unfoldable pub limitsVerdict : ℤ → ℤ → Verdict
 limitsVerdict cap floor = pick (not (limitsOk cap floor)) (refused 19) accepted

@@ -1,4 +1,5 @@
 // Opening a book.
+use crate::setting::threshold_verdict;
 use book::record::Answer;
 use book::record::Book;
 use book::record::Refusal;
@@ -7,7 +8,6 @@ use book::record::closed;
 use book::record::ring_size;
 use book::validity::parents_ok;
 use book::validity::shape_ok;
-use book::validity::threshold_ok;
 ghost use mathlib.Core.Path.{_≡_};
 ghost use lib.IntN.{pos};
 ghost use lib.ListN.{length, replicate};
@@ -36,13 +36,16 @@ fn open_verdict(settings: Settings, ring: usize) -> Answer
     if ring != ring_size(settings.regions, settings.services, settings.window) {
         return Answer::Refused(Refusal::Length);
     }
-    if !threshold_ok(settings.threshold) {
-        return Answer::Refused(Refusal::Threshold);
+    let threshold = threshold_verdict(settings.threshold);
+    match threshold {
+        Answer::Refused(_) => threshold,
+        Answer::Accepted => {
+            if !pricing::holding::limits_ok(settings.cap, settings.floor) {
+                return Answer::Refused(Refusal::Limits);
+            }
+            threshold
+        }
     }
-    if !pricing::holding::limits_ok(settings.cap, settings.floor) {
-        return Answer::Refused(Refusal::Limits);
-    }
-    Answer::Accepted
 }
 
 fn fresh(settings: Settings) -> Book

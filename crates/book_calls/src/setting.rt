@@ -5,11 +5,34 @@ use book::record::Refusal;
 use book::validity::threshold_ok;
 use book::validity::valid;
 ghost use mathlib.Core.Path.{_≡_};
-ghost use Rattle.book_calls.specs.Setting.{outcome, setThreshold, setLimits};
+ghost use lib.IntN.{pos};
+ghost use lib.Signed.{_≤ℤ_};
+ghost use Rattle.book.specs.Record.{verdict};
+ghost use Rattle.book_calls.specs.Setting.{inHundreds, thresholdVerdict, outcome, setThreshold, setLimits};
 
 pub struct Changed {
     pub book: Book,
     pub answer: Answer,
+}
+
+fn in_hundreds(threshold: i64) -> bool
+    requires { ⌜ pos 1 ≤ℤ threshold ⌝ }
+    ensures { λ x. ⌜ x ≡ inHundreds threshold ⌝ }
+{
+    threshold as u64 % 10000 == 0
+}
+
+// What openings and settings alike ask of a threshold.
+pub fn threshold_verdict(threshold: i64) -> Answer
+    ensures { λ r. ⌜ verdict r ≡ thresholdVerdict threshold ⌝ }
+{
+    if !threshold_ok(threshold) {
+        return Answer::Refused(Refusal::Threshold);
+    }
+    if !in_hundreds(threshold) {
+        return Answer::Refused(Refusal::Hundreds);
+    }
+    Answer::Accepted
 }
 
 pub fn set_threshold(book: Book, threshold: i64) -> Changed
@@ -21,17 +44,14 @@ pub fn set_threshold(book: Book, threshold: i64) -> Changed
             answer: Answer::Refused(Refusal::Invalid),
         };
     }
-    if !threshold_ok(threshold) {
-        return Changed {
-            book,
-            answer: Answer::Refused(Refusal::Threshold),
-        };
-    }
-    let mut next = book;
-    next.threshold = threshold;
-    Changed {
-        book: next,
-        answer: Answer::Accepted,
+    let answer = threshold_verdict(threshold);
+    match answer {
+        Answer::Refused(_) => Changed { book, answer },
+        Answer::Accepted => {
+            let mut next = book;
+            next.threshold = threshold;
+            Changed { book: next, answer }
+        }
     }
 }
 

@@ -18,7 +18,7 @@ use Rattle.book.specs.declared.record.Book.{Book}
 use Rattle.book.specs.declared.record.Settings.{Settings}
 use Rattle.book.specs.Record.{marketsOf}
 use Rattle.book.specs.Validity.{valid}
-use Rattle.book_calls.specs.Opening.{opened, openVerdict}
+use Rattle.book_calls.specs.Opening.{opened, openVerdict, fresh}
 use Rattle.book_calls.specs.Setting.{thresholdVerdict, limitsVerdict, setThreshold, setLimits}
 use Rattle.book_calls.specs.Report.{reportOf, reportVerdict}
 use Rattle.routes.specs.Limits.{tighter, over}
@@ -36,15 +36,15 @@ use Rattle.entries.specs.Checking.{entryVerdict}
 use Rattle.entries.specs.Entering as Entering
 use Rattle.ledger.specs.Calls.{Call, entry, threshold, limits, report, restart, Answer, entered, set, reported, restarted, answers, after}
 use Rattle.ledger.specs.Book.{Held, play}
-use Rattle.ledger.specs.Demand.{settingsOf, opening}
+use Rattle.ledger.specs.Demand as Demand
+use Rattle.ledger.specs.Demand.{Start, opens, loads, settings, Begins, settingsOf}
 use Rattle.isolation.specs.Isolation.{Told, of-refusal, of-prices, of-suspension, of-threshold, of-limits, of-report, of-restart}
-use Rattle.isolation.specs.Isolation.{heard, Opens, answered, bookAfter, Reported-alike}
+use Rattle.isolation.specs.Isolation.{heard, answered, bookAfter, Reported-alike}
 use Rattle.isolation.proofs.Theorem.{isolation}
 
--- a book's opening and the calls on it
+-- how a book begins, and the calls on it
 record Side : Type 0 where
-  settings : Settings
-  ring : List ℤ
+  start : Start
   calls : List Call
 
 -- what they tell region 1, and after each of them the sum, prices counted and mark of each of its markets
@@ -74,18 +74,17 @@ reports-after markets s (c ∷ L) (suc n) h = reports-after markets (play s c .s
 
 abbrev figures : Side → Figures
 figures x = record {
-  tells = heard (marketsOf (x .settings .services)) 1 (x .calls) (answered (x .settings) (x .ring) (x .calls));
-  reports = reportsOn (marketsOf (x .settings .services)) (opening (x .settings) (x .ring)) (x .calls);
+  tells = heard (marketsOf (settings (x .start) .services)) 1 (x .calls) (answered (x .start) (x .calls));
+  reports = reportsOn (marketsOf (settings (x .start) .services)) (Demand.held (x .start)) (x .calls);
 }
 
 abbrev same-figures : Side → Side → Figures → Type 0
 same-figures x y f = (figures x ≡ f) × (figures y ≡ f)
 
 -- ---- R 2, parents 255 and 0, S 0, W 2, H 1, threshold 90,000, limits ±60,000
-abbrev opens : ℕ → List Call → Side
-opens first L = record {
-  settings = settingsOf 2 0 2 1 first (λ r. getD (255 ∷ 0 ∷ []) r 255) (pos 90000) (pos 60000) (negsuc 59999);
-  ring = replicate 4 (pos 7);
+abbrev opened-at : ℕ → List Call → Side
+opened-at first L = record {
+  start = opens (settingsOf 2 0 2 1 first (λ r. getD (255 ∷ 0 ∷ []) r 255) (pos 90000) (pos 60000) (negsuc 59999)) (replicate 4 (pos 7));
   calls = L;
 }
 
@@ -108,7 +107,7 @@ told-prices (x ∷ l) = of-prices (x ∷ []) ∷ told-prices l
 -- `travels`: region 0 is above the threshold after entry 0, and its cap comes to region 1 at entry 1. `stays`: it is not, and none comes
 abbrev travels : Side
 travels =
-    opens 0 (
+    opened-at 0 (
     enters 0 (pos 100000) 0 (pos 70000) 0 (pos 0)
     ∷ enters 1 (pos 100000) 0 (pos 70000) 0 (pos 1)
     ∷ enters 2 (pos 0) 0 (pos 10000) 0 (pos 1)
@@ -117,7 +116,7 @@ travels =
 
 abbrev stays : Side
 stays =
-    opens 0 (
+    opened-at 0 (
     enters 0 (pos 0) 0 (pos 70000) 0 (negsuc 0)
     ∷ enters 1 (pos 5) 1 (pos 70000) 0 (negsuc 0)
     ∷ enters 2 (pos 50) 0 (pos 10000) 0 (pos 0)
@@ -140,10 +139,10 @@ publishedIn (restarted v ∷ l) = publishedIn l
 
 -- `released`: the second entry is the day's last; region 1's period ends and region 0's goes on. `released-alone`: region 0 has none
 abbrev released : Side
-released = opens 4 (plain 0 (pos 100000) (pos 100000) ∷ plain 1 (pos 100000) (negsuc 49999) ∷ [])
+released = opened-at 4 (plain 0 (pos 100000) (pos 100000) ∷ plain 1 (pos 100000) (negsuc 49999) ∷ [])
 
 abbrev released-alone : Side
-released-alone = opens 4 (plain 0 (pos 0) (pos 100000) ∷ plain 1 (pos 0) (negsuc 49999) ∷ [])
+released-alone = opened-at 4 (plain 0 (pos 0) (pos 100000) ∷ plain 1 (pos 0) (negsuc 49999) ∷ [])
 
 abbrev fifty : Figures
 fifty = record {
@@ -152,7 +151,7 @@ fifty = record {
 }
 
 -- ---- `everything` and `otherwise`: calls of every kind, with all that may differ. Both have S 1, W 2, H 1, first position 4 and threshold
--- 90,000; the one has two regions and limits ±60,000, the other three in a row and limits 10 and −10
+-- 90,000; the one is opened, with two regions and limits ±60,000, the other loaded from an image, with three in a row and limits 10 and −10
 -- an entry into the one: number, prices and region 1's mark
 abbrev of-two : ℕ → List ℤ → ℕ → Call
 of-two number prices mark =
@@ -169,12 +168,11 @@ of-three number prices mark =
 
 abbrev everything : Side
 everything = record {
-  settings = settingsOf 2 1 2 1 4 (λ r. getD (255 ∷ 0 ∷ []) r 255) (pos 90000) (pos 60000) (negsuc 59999);
-  ring = replicate 8 (pos 7);
+  start = opens (settingsOf 2 1 2 1 4 (λ r. getD (255 ∷ 0 ∷ []) r 255) (pos 90000) (pos 60000) (negsuc 59999)) (replicate 8 (pos 7));
   calls =
       of-two 0 (pos 100000 ∷ pos 1 ∷ pos 70000 ∷ pos 95000 ∷ []) 0
-      -- refused: 18
-      ∷ threshold (pos 0)
+      -- refused: 44
+      ∷ threshold (pos 65000)
       ∷ limits (pos 60000) (negsuc 59999)
       -- region 1 is marked
       ∷ of-two 1 (pos 100000 ∷ pos 1 ∷ pos 99 ∷ pos 99 ∷ []) 1
@@ -189,8 +187,10 @@ everything = record {
 
 abbrev otherwise : Side
 otherwise = record {
-  settings = settingsOf 3 1 2 1 4 (λ r. getD (255 ∷ 0 ∷ 1 ∷ []) r 255) (pos 90000) (pos 10) (negsuc 9);
-  ring = replicate 12 (negsuc 7);
+  start =
+      loads
+      (imageOf (fresh (settingsOf 3 1 2 1 4 (λ r. getD (255 ∷ 0 ∷ 1 ∷ []) r 255) (pos 90000) (pos 10) (negsuc 9))) [])
+      (replicate 12 (negsuc 7));
   calls =
       of-three 0 (pos 0 ∷ pos 0 ∷ pos 70000 ∷ pos 95000 ∷ pos 100000 ∷ pos 2 ∷ []) 0
       -- refused: 21
@@ -221,28 +221,28 @@ tenfold = record {
 -- ---- not told the same, or not opened alike
 -- `out-of-range`: a price of region 0 that is out of range refuses the whole entry
 abbrev out-of-range : Side
-out-of-range = opens 0 (plain 0 (pos 10000001) (pos 50000) ∷ [])
+out-of-range = opened-at 0 (plain 0 (pos 10000001) (pos 50000) ∷ [])
 
 abbrev in-range : Side
-in-range = opens 0 (plain 0 (pos 10000000) (pos 50000) ∷ [])
+in-range = opened-at 0 (plain 0 (pos 10000000) (pos 50000) ∷ [])
 
 -- a threshold set before the entry, after it, and before it to another value
 abbrev set-early : Side
-set-early = opens 0 (threshold (pos 40000) ∷ plain 0 (pos 0) (pos 50000) ∷ [])
+set-early = opened-at 0 (threshold (pos 40000) ∷ plain 0 (pos 0) (pos 50000) ∷ [])
 
 abbrev set-late : Side
-set-late = opens 0 (plain 0 (pos 0) (pos 50000) ∷ threshold (pos 40000) ∷ [])
+set-late = opened-at 0 (plain 0 (pos 0) (pos 50000) ∷ threshold (pos 40000) ∷ [])
 
 abbrev set-higher : Side
-set-higher = opens 0 (threshold (pos 60000) ∷ plain 0 (pos 0) (pos 50000) ∷ [])
+set-higher = opened-at 0 (threshold (pos 60000) ∷ plain 0 (pos 0) (pos 50000) ∷ [])
 
 -- `later-day`: as `released-alone`, but the second entry is not the day's last
 abbrev later-day : Side
-later-day = opens 3 (plain 0 (pos 0) (pos 100000) ∷ plain 1 (pos 0) (negsuc 49999) ∷ [])
+later-day = opened-at 3 (plain 0 (pos 0) (pos 100000) ∷ plain 1 (pos 0) (negsuc 49999) ∷ [])
 
 -- `marked`: as `in-range`, but region 1 is marked
 abbrev marked : Side
-marked = opens 0 (enters 0 (pos 10000000) 0 (pos 50000) 1 (pos 0) ∷ [])
+marked = opened-at 0 (enters 0 (pos 10000000) 0 (pos 50000) 1 (pos 0) ∷ [])
 
 -- the figures of a list that tells these, after which such are reported
 abbrev are : List Told → List (List ℤ) → Figures
@@ -250,8 +250,8 @@ are l r = record { tells = l; reports = r }
 
 record Computed : Type 0 where
   travel : same-figures travels stays seventy
-  energies : (publishedIn (answered (travels .settings) (travels .ring) (travels .calls)) ≡ pos 70000 ∷ pos 54545 ∷ pos 10000 ∷ [])
-      × (publishedIn (answered (stays .settings) (stays .ring) (stays .calls)) ≡ pos 70000 ∷ pos 70000 ∷ pos 10000 ∷ [])
+  energies : (publishedIn (answered (travels .start) (travels .calls)) ≡ pos 70000 ∷ pos 54545 ∷ pos 10000 ∷ [])
+      × (publishedIn (answered (stays .start) (stays .calls)) ≡ pos 70000 ∷ pos 70000 ∷ pos 10000 ∷ [])
   release : same-figures released released-alone fifty
   every : same-figures everything otherwise tenfold
   refusal : (figures out-of-range ≡ are (of-refusal ∷ []) (row (pos 0) 0 0 ∷ []))
@@ -278,20 +278,21 @@ computed = record {
 }
 
 -- the hypotheses hold of `everything` and `otherwise`, so the theorem speaks of them
-everything-opens : Opens (everything .settings) (everything .ring)
-unfolding opened openVerdict run allBelow
-everything-opens = record { parents = refl; verdict = refl }
+everything-begins : Begins (everything .start)
+unfolding opened openVerdict thresholdVerdict run allBelow
+everything-begins = record { accepted = refl; fit = refl }
 
-otherwise-opens : Opens (otherwise .settings) (otherwise .ring)
-unfolding opened openVerdict run allBelow
-otherwise-opens = record { parents = refl; verdict = refl }
+otherwise-begins : Begins (otherwise .start)
+unfolding valid run firstOf allBelow imageOf values firsts seconds words widths encode le joined sumFrom loaded loadVerdict headVerdict numberAt number decode bookOf badFrom bookFrom ringFrom windowsFrom sumsFrom total
+otherwise-begins = record { accepted = refl; fit = record { entries = refl; marks = refl } }
 
 pub everything-isolated : (n market : ℕ) → Reported-alike
-    (bookAfter (everything .settings) (everything .ring) (everything .calls) n)
-    (bookAfter (otherwise .settings) (otherwise .ring) (otherwise .calls) n) 1 1 market
+    (bookAfter (everything .start) (everything .calls) n)
+    (bookAfter (otherwise .start) (otherwise .calls) n) 1 1 market
+unfolding valid run firstOf allBelow imageOf values firsts seconds words widths encode le joined sumFrom loaded loadVerdict headVerdict numberAt number decode bookOf badFrom bookFrom ringFrom windowsFrom sumsFrom total
 everything-isolated =
-    isolation (everything .settings) (otherwise .settings) (everything .ring) (otherwise .ring) (everything .calls) (otherwise .calls) 1
-    everything-opens otherwise-opens
+    isolation (everything .start) (otherwise .start) (everything .calls) (otherwise .calls) 1
+    everything-begins otherwise-begins
     (record { services = refl; window = refl; halves = refl; first = refl; threshold = refl })
     (ltb-true 1 2 refl) (ltb-true 1 3 refl)
     (ap (λ (f : Figures). f .tells) (computed .every .0 ∙ sym (computed .every .1)))

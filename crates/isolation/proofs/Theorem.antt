@@ -19,10 +19,11 @@ use Rattle.ledger.specs.Ledger as Ledger
 use Rattle.ledger.specs.Ledger.{Item, interval, threshold-set, limits-set, Ledger, taken, isUnmarked, entryPrice}
 use Rattle.ledger.specs.Book as Book
 use Rattle.ledger.specs.Book.{Held}
-use Rattle.ledger.specs.Demand.{opening}
+use Rattle.ledger.specs.Demand.{held, settings}
 use Rattle.ledger.proofs.Agrees.{Agree}
 use Rattle.ledger.proofs.Reports.{report-agrees}
-use Rattle.ledger.proofs.Theorem.{plays, settings-after, opening-agrees}
+use Rattle.ledger.proofs.Begins.{start-agrees}
+use Rattle.ledger.proofs.Theorem.{plays, settings-after}
 use Rattle.isolation.specs.Isolation.{Told, of-refusal, of-prices, of-suspension, of-threshold, of-limits, of-report, of-restart}
 use Rattle.isolation.specs.Isolation.{toldBy, told, heard, Opened-alike, Reported-alike, Isolation}
 use Rattle.isolation.proofs.Parts.{Part, priced, suspended, threshold-of, partOf, parts, reports-same, report-answered}
@@ -166,7 +167,5 @@ module _ (s t : Held) (x y : Settings) (a : Agree s (Ledger.begin x)) (b : Agree
 
 -- THE THEOREM
 pub isolation : Isolation
-isolation s t ring other L K r o u alike in-s in-t same n m =
-    apart (opening s ring) (opening t other) s t
-    (opening-agrees s ring (o .parents) (o .verdict)) (opening-agrees t other (u .parents) (u .verdict))
-    alike r in-s in-t L K same n m
+isolation s t L K r a b alike in-s in-t same n m =
+    apart (held s) (held t) (settings s) (settings t) (start-agrees s a) (start-agrees t b) alike r in-s in-t L K same n m

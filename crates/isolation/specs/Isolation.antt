@@ -1,14 +1,14 @@
 -- ISOLATION (request 2026-05): one region's trouble stays its own. This file is all that is claimed; `isolation` of proofs/Theorem proves
 -- `Isolation`. Assumes nothing.
 --
--- In words: open two books with the same services, window, half-hours, first position and threshold, and play a list of calls on each.
--- Let the following hold place by place: both calls were refused; or both were accepted and are of the same kind, with the same threshold
+-- In words: begin two books with the same services, window, half-hours, first position and threshold, each by an opening or by a load of
+-- an image of a book without entries and with no period marked, and play a list of calls on each. Let the following hold place by place: both calls were refused; or both were accepted and are of the same kind, with the same threshold
 -- if they set it and, if they are entries, with the same mark of a region r and, where it is unmarked, the same entry prices of r. Then
 -- after every so many calls a report of each market of r is the same from both books: sum, prices counted, period mark, entries taken.
 --
 -- All else may differ: how many regions there are, parents, cap and floor; other regions' prices and marks; the prices of r while it is
--- marked; flows, factors, day kinds, schedules and tables; the limits set; what reports ask for; buffers and rings, at the opening and at
--- restarts; and of refused calls everything, their kinds and refusals too. What is published may differ as well, since limits travel.
+-- marked; flows, factors, day kinds, schedules and tables; the limits set; what reports ask for; buffers and rings, at the beginning and at
+-- restarts; and of refused calls everything, their kinds and refusals too; one book may be opened and the other loaded. What is published may differ as well, since limits travel.
 --
 -- Three machines that it rules out; proofs/Cases has two books of which each machine would report differently:
 --   one whose sums take the published energy price, which a neighbour's limit holds (`travels` and `stays`);
@@ -23,20 +23,19 @@ use mathlib.Core.Path.{_≡_}
 use mathlib.Core.List.{List, [], _∷_}
 use Prim.Native.Nat.{ℕ, _≤_, _<_}
 use lib.IntN.{ℤ}
-use lib.ListN.{length, take}
+use lib.ListN.{take}
 use Rattle.laws.specs.Base.{pick}
 use Rattle.laws.specs.Lists.{tabulate}
 use Rattle.pricing.specs.Verdict.{accepted}
 use Rattle.book.specs.declared.record.Book.{Book}
 use Rattle.book.specs.declared.record.Settings.{Settings}
 use Rattle.book.specs.Record.{marketsOf, isAccepted}
-use Rattle.book_calls.specs.Opening.{opened}
 use Rattle.book_calls.specs.Report.{reportOf}
 use Rattle.publishing.specs.Entry.{Entry}
 use Rattle.ledger.specs.Calls.{Call, entry, threshold, limits, report, restart, Answer, answers, after, verdictIn}
 use Rattle.ledger.specs.Ledger.{isUnmarked, entryPrice}
 use Rattle.ledger.specs.Book.{play}
-use Rattle.ledger.specs.Demand.{opening}
+use Rattle.ledger.specs.Demand.{Start, held, settings, Begins}
 
 -- what a call tells a region: of a refused one that it was refused; of an accepted one its kind, of a threshold's setting the threshold,
 -- of an entry the region's prices, or that it was marked (suspended)
@@ -68,12 +67,7 @@ heard markets region [] l = []
 heard markets region (c ∷ L) [] = []
 heard markets region (c ∷ L) (a ∷ l) = pick (isAccepted (verdictIn a)) (told markets region c) of-refusal ∷ heard markets region L l
 
--- a book opened over a ring, by an accepted call; that there are "eight parent bytes" is what the type of the settings says
-pub record Opens (s : Settings) (ring : List ℤ) : Type 0 where
-  pub parents : length (s .parents) ≡ 8
-  pub verdict : opened s ring .verdict .number ≡ 0
-
--- "books opened alike": in all that a region's sums, counts and marks take from an opening
+-- "books opened alike": in all that a region's sums, counts and marks take from an opening, or from an image's settings in their place
 pub record Opened-alike (s t : Settings) : Type 0 where
   pub services : s .services ≡ t .services
   pub window : s .window ≡ t .window
@@ -81,12 +75,12 @@ pub record Opened-alike (s t : Settings) : Type 0 where
   pub first : s .first ≡ t .first
   pub threshold : s .threshold ≡ t .threshold
 
--- what the book itself answers to a list of calls from its opening, "each ring written by its list only", and the book after the first n
-abbrev pub answered : Settings → List ℤ → List Call → List Answer
-answered s ring L = answers play (opening s ring) L
+-- what the book itself answers to a list of calls from its start, "each ring written by its list only", and the book after the first n
+abbrev pub answered : Start → List Call → List Answer
+answered s L = answers play (held s) L
 
-abbrev pub bookAfter : Settings → List ℤ → List Call → ℕ → Book
-bookAfter s ring L n = after play (opening s ring) (take n L) .book
+abbrev pub bookAfter : Start → List Call → ℕ → Book
+bookAfter s L n = after play (held s) (take n L) .book
 
 -- "its sums, counts and period marks are the same": the report of a market is, and of each market of the region it is no refusal
 pub record Reported-alike (b c : Book) (services region market : ℕ) : Type 0 where
@@ -96,7 +90,7 @@ pub record Reported-alike (b c : Book) (services region market : ℕ) : Type 0 w
 -- "throughout": for every n
 abbrev pub Isolation : Type 0
 Isolation =
-    (s t : Settings) (ring other : List ℤ) (L K : List Call) (region : ℕ)
-    → Opens s ring → Opens t other → Opened-alike s t → region < s .regions → region < t .regions
-    → heard (marketsOf (s .services)) region L (answered s ring L) ≡ heard (marketsOf (s .services)) region K (answered t other K)
-    → (n market : ℕ) → Reported-alike (bookAfter s ring L n) (bookAfter t other K n) (s .services) region market
+    (s t : Start) (L K : List Call) (region : ℕ)
+    → Begins s → Begins t → Opened-alike (settings s) (settings t) → region < settings s .regions → region < settings t .regions
+    → heard (marketsOf (settings s .services)) region L (answered s L) ≡ heard (marketsOf (settings s .services)) region K (answered t K)
+    → (n market : ℕ) → Reported-alike (bookAfter s L n) (bookAfter t K n) (settings s .services) region market

@@ -1,5 +1,5 @@
 -- The one table of the cases that document 01 marks (*): the numbers that the definitions compute beside those of the paper. The
--- cases of a book are played on both machines, the book from its opening and the ledger P. Assumes nothing.
+-- cases of a book are played on both machines, the book and the ledger P, from an image: no opening takes its threshold. Assumes nothing.
 use mathlib.Core.Path.{_≡_, refl}
 use mathlib.Core.Bool.{true}
 use mathlib.Core.List.{List, [], _∷_, _++_}
@@ -7,7 +7,7 @@ use Prim.Native.Nat.{ℕ, _*_}
 use lib.IntN.{ℤ, pos, negsuc}
 use lib.ListN.{getD, replicate}
 use Rattle.laws.specs.Base.{minZ, maxZ}
-use Rattle.laws.specs.Lists.{run, allBelow, anyBelow, countBelow, firstOf, total, lastN}
+use Rattle.laws.specs.Lists.{run, allBelow, anyBelow, countBelow, firstOf, total, lastN, joined, sumFrom}
 use Rattle.laws.specs.Tables.{Row, sameNumbers, agree}
 use Rattle.pricing.proofs.Cases as Pricing
 use Rattle.schedule.proofs.Cases as Schedule
@@ -36,7 +36,11 @@ use Rattle.ledger.specs.Calls.{Call, entry, report, Answer, entered, set
 use Rattle.ledger.specs.Ledger as Ledger
 use Rattle.ledger.specs.Ledger.{entriesOf, before, lastSet, unmarkedPrices, administeredAt}
 use Rattle.ledger.specs.Book as Book
-use Rattle.ledger.specs.Demand.{settingsOf, opening}
+use Rattle.ledger.specs.Demand as Demand
+use Rattle.ledger.specs.Demand.{Start, loads, settingsOf}
+use Rattle.laws.specs.Bytes.{le, number, numberAt, encode, decode, words}
+use Rattle.head.specs.Layout.{widths, firsts, seconds, values, imageOf, bookOf}
+use Rattle.image.specs.Loading.{headVerdict, badFrom, loadVerdict, windowsFrom, sumsFrom, bookFrom, ringFrom, loaded}
 
 -- ---- what a row takes of the answers
 -- of each entry its count and published table
@@ -60,13 +64,18 @@ reports number (restarted v ∷ l) = reports number l
 abbrev book : ℕ → ℕ → List ℕ → Settings
 book regions window parents = settingsOf regions 0 window 1 0 (λ r. getD parents r 255) (pos 95000) (pos 60000) (negsuc 59999)
 
--- both machines from an opening: the book over a ring of so many places that held something, and P
-abbrev pub bothFrom : (List Answer → List ℤ) → Settings → ℕ → List Call → List ℤ
-bothFrom taken s places L =
-    taken (answers Book.play (opening s (replicate places (pos 7))) L) ++ taken (answers Ledger.play (Ledger.begin s) L)
+-- "its list may begin with such an image of a book without entries .., as the worked books of document 01 then do" (request 2026-06):
+-- its image, loaded into a ring that held something
+abbrev start : ℕ → ℕ → List ℕ → Start
+start regions window parents = loads (imageOf (Opening.fresh (book regions window parents)) []) (replicate (regions * window) (pos 7))
+
+-- both machines from a start: the book, and P
+abbrev pub bothFrom : (List Answer → List ℤ) → Start → List Call → List ℤ
+bothFrom taken from L =
+    taken (answers Book.play (Demand.held from) L) ++ taken (answers Ledger.play (Ledger.begin (Demand.settings from)) L)
 
 abbrev both : (List Answer → List ℤ) → ℕ → ℕ → List ℕ → List Call → List ℤ
-both taken regions window parents L = bothFrom taken (book regions window parents) (regions * window) L
+both taken regions window parents L = bothFrom taken (start regions window parents) L
 
 abbrev pub twice : List ℤ → List ℤ
 twice l = l ++ l
@@ -142,5 +151,5 @@ cases = Pricing.cases ++ (Schedule.cases ++ bookCases)
 
 -- the one test over all of them
 pub cases-agree : agree cases ≡ true
-unfolding agree cases bookCases Pricing.cases Schedule.cases indexed mean sameNumbers answers Ledger.play Book.play entryVerdict entriesOf firstOf run countBelow published Ledger.reportOf atLeast Report.reportVerdict limit total administeredAt Routes.limitOf lastN anyBelow Routes.overAll unmarkedPrices lastSet Routes.routesFrom before tighter allBelow Routes.along hasLimit atMost cappedBy effective Opening.opened Opening.openVerdict Entering.entered Report.reportOf valid over powerOf minZ maxZ held carried cents inCents rounded nearest Routes.joined Routes.after scheduled anyAdministered
+unfolding agree cases bookCases Pricing.cases Schedule.cases indexed mean sameNumbers answers Ledger.play Book.play entryVerdict entriesOf firstOf run countBelow published Ledger.reportOf atLeast Report.reportVerdict limit total administeredAt Routes.limitOf lastN anyBelow Routes.overAll unmarkedPrices lastSet Routes.routesFrom before tighter allBelow Routes.along hasLimit atMost cappedBy effective Entering.entered Report.reportOf valid over powerOf minZ maxZ held carried cents inCents rounded nearest Routes.joined Routes.after scheduled anyAdministered imageOf values firsts seconds words widths encode le joined sumFrom loaded loadVerdict headVerdict numberAt number decode bookOf badFrom bookFrom ringFrom windowsFrom sumsFrom
 cases-agree = refl

@@ -17,6 +17,7 @@ use Rattle.pricing.specs.Passing.{cents}
 use Rattle.book.specs.declared.record.Settings.{Settings}
 use Rattle.book.specs.Validity.{valid}
 use Rattle.book_calls.specs.Opening as Opening
+use Rattle.book_calls.specs.Setting.{thresholdVerdict}
 use Rattle.routes.specs.Limits.{tighter, over}
 use Rattle.routes.specs.Links.{powerOf}
 use Rattle.routes.specs.Routes as Routes
@@ -31,7 +32,7 @@ use Rattle.ledger.specs.Calls.{Call, entry, answers}
 use Rattle.ledger.specs.Ledger as Ledger
 use Rattle.ledger.specs.Ledger.{entriesOf, before, lastSet, unmarkedPrices, administeredAt}
 use Rattle.ledger.specs.Book as Book
-use Rattle.ledger.specs.Demand.{settingsOf}
+use Rattle.ledger.specs.Demand.{opens, settingsOf}
 use Rattle.ledger.proofs.Cases.{tables, bothFrom, twice}
 
 -- each region's parent is the one before it; S 0, W 1, H 1, threshold 90,000
@@ -50,7 +51,7 @@ abbrev case : ℤ → ℤ → List ℤ → ℤ → List ℕ → List ℤ → Lis
 case cap floor first flow factors prices expected =
     record {
       computed =
-          bothFrom tables (chain (length first) cap floor) (length first)
+          bothFrom tables (opens (chain (length first) cap floor) (replicate (length first) (pos 7)))
           (interval 0 (pos 0) factors first ∷ interval 1 flow factors prices ∷ []);
       paper = twice (pos 0 ∷ (first ++ expected));
     }
@@ -79,5 +80,5 @@ cases =
 
 -- the one test over the rows
 pub cases-agree : agree cases ≡ true
-unfolding agree cases sameNumbers answers Ledger.play Book.play entryVerdict entriesOf firstOf run countBelow published atLeast limit total administeredAt Routes.limitOf lastN anyBelow Routes.overAll unmarkedPrices lastSet Routes.routesFrom before tighter allBelow Routes.along hasLimit atMost cappedBy effective Opening.opened Opening.openVerdict Entering.entered valid over powerOf minZ maxZ held carried cents inCents rounded nearest Routes.joined Routes.after scheduled anyAdministered
+unfolding agree cases sameNumbers answers Ledger.play Book.play entryVerdict entriesOf firstOf run countBelow published atLeast limit total administeredAt Routes.limitOf lastN anyBelow Routes.overAll unmarkedPrices lastSet Routes.routesFrom before tighter allBelow Routes.along hasLimit atMost cappedBy effective Opening.opened Opening.openVerdict thresholdVerdict Entering.entered valid over powerOf minZ maxZ held carried cents inCents rounded nearest Routes.joined Routes.after scheduled anyAdministered
 cases-agree = refl

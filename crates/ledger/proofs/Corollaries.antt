@@ -12,14 +12,14 @@ use lib.IntN.{ℤ}
 use lib.ListN.{length, getD, take, drop}
 use Rattle.laws.specs.Base.{pick}
 use Rattle.laws.proofs.Tests.{by-test, true-is}
-use Rattle.laws.proofs.Lists.{lastN-length}
+use Rattle.laws.proofs.Lists.{length-run, lastN-length}
 use Rattle.pricing.specs.Verdict.{Verdict, accepted, refusedAt}
 use Rattle.pricing.specs.Holding.{limitsOk}
 use Rattle.book.specs.declared.record.Book.{Book}
 use Rattle.book.specs.declared.record.Settings.{Settings}
 use Rattle.book.specs.Record.{marketsOf, tableSize, ringSize, isAccepted}
 use Rattle.book.specs.Validity.{thresholdOk, valid}
-use Rattle.book_calls.specs.Setting.{thresholdVerdict, limitsVerdict, withSettings, changed, setThreshold, setLimits}
+use Rattle.book_calls.specs.Setting.{inHundreds, thresholdVerdict, limitsVerdict, withSettings, changed, setThreshold, setLimits}
 use Rattle.book_calls.specs.Report.{reportVerdict}
 use Rattle.book_calls.specs.Opening as Opening
 use Rattle.publishing.specs.Entry.{Entry}
@@ -36,7 +36,7 @@ use Rattle.ledger.specs.Ledger as Ledger
 use Rattle.ledger.specs.Ledger.{Ledger, interval, taken, unmarkedPrices, entriesOf, countsTo, imageLength, reportOf, restartVerdict}
 use Rattle.ledger.specs.Book as Book
 use Rattle.ledger.specs.Book.{Held, isOwn}
-use Rattle.ledger.specs.Demand.{settingsOf, opening, Demand-3}
+use Rattle.ledger.specs.Demand.{Start, opens, held, settings, Begins, settingsOf, Answers-alike, Demand-3}
 use Rattle.ledger.proofs.Checks.{entered-accepted, entered-refused}
 use Rattle.ledger.proofs.Theorem.{settings-after, demand-3}
 
@@ -70,7 +70,9 @@ entry-other s taken ring number e table =
 
 threshold-other : (x : ℤ) → Other (thresholdVerdict x)
 unfolding thresholdVerdict
-threshold-other x = other-pick (not (thresholdOk x)) (by-other 18 0 tt tt) (by-other 0 0 tt tt)
+threshold-other x =
+    other-pick (not (thresholdOk x)) (by-other 18 0 tt tt)
+    (other-pick (not (inHundreds x)) (by-other 44 0 tt tt) (by-other 0 0 tt tt))
 
 limits-other : (c f : ℤ) → Other (limitsVerdict c f)
 unfolding limitsVerdict
@@ -151,7 +153,7 @@ counts-most p (suc n) =
     let prices = unmarkedPrices (marketsOf (p .settings .services)) n 0 (take (taken p) (entriesOf (p .items))) in
     omega (arith, counts-most p n, lastN-length W prices, suc-mul n W)
 
-abbrev placesOf : Settings → ℕ
+abbrev pub placesOf : Settings → ℕ
 placesOf t = ringSize (t .regions) (t .services) (t .window)
 
 image-most : (p : Ledger) → imageLength p ≤ 148 + 4 * placesOf (p .settings)
@@ -218,52 +220,58 @@ refused-b s (limits c f) h = refused-setting s (limitsVerdict c f) (withSettings
 refused-b s (report r m) h = refl
 refused-b s (restart buffer g) h = refused-restart s (stored (s .book) (s .ring) buffer) g (handed (s .book) (s .ring) buffer) h
 
--- ---- over every list of calls, from an opening whose own answer is an acceptance
-module _ (regions services window halves first : ℕ) (parents : ℕ → ℕ) (θ cap floor : ℤ) (ring : List ℤ)
-    (ok : Opening.opened (settingsOf regions services window halves first parents θ cap floor) ring .verdict .number ≡ 0) where
-  abbrev pub start : Held
-  start = opening (settingsOf regions services window halves first parents θ cap floor) ring
+-- ---- the base's form: from an opening, whose own accepted answer is all that is asked
+pub from-opening : (regions services window halves first : ℕ) (parents : ℕ → ℕ) (θ cap floor : ℤ) (ring : List ℤ) (L : List Call)
+    → Opening.opened (settingsOf regions services window halves first parents θ cap floor) ring .verdict .number ≡ 0
+    → Answers-alike (held (opens (settingsOf regions services window halves first parents θ cap floor) ring))
+    (Ledger.begin (settingsOf regions services window halves first parents θ cap floor)) L
+unfolding Demand-3
+from-opening regions services window halves first parents θ cap floor ring L e =
+    demand-3 (opens (settingsOf regions services window halves first parents θ cap floor) ring) L
+    (record { accepted = e; fit = length-run parents 8 0 })
 
+-- ---- over every list of calls, from every start that P's list may begin with
+module _ (start : Start) (b : Begins start) where
   abbrev pub beginning : Ledger
-  beginning = Ledger.begin (settingsOf regions services window halves first parents θ cap floor)
+  beginning = Ledger.begin (settings start)
 
-  same : (L : List Call) → answers Book.play start L ≡ answers Ledger.play beginning L
+  same : (L : List Call) → answers Book.play (held start) L ≡ answers Ledger.play beginning L
   unfolding Demand-3
-  same L = demand-3 regions services window halves first parents θ cap floor ring L ok .during
+  same L = demand-3 start L b .during
 
   -- "10 and 22 never occur over L"
-  pub never-10-22 : (L : List Call) → Never 10 (answers Book.play start L) × Never 22 (answers Book.play start L)
+  pub never-10-22 : (L : List Call) → Never 10 (answers Book.play (held start) L) × Never 22 (answers Book.play (held start) L)
   never-10-22 L = rw (same L) (never-p L beginning)
 
   -- a refused call "leaves .. the lent table as [it was] and answers zeros beside number and place"
-  pub refused-zeros : (L : List Call) → Zeros L (answers Book.play start L)
+  pub refused-zeros : (L : List Call) → Zeros L (answers Book.play (held start) L)
   refused-zeros L = rw (same L) (zeros-p L beginning)
 
   -- restarts make no difference: the other calls are answered as if none had been made
-  pub restarts-alike : (L : List Call) → dropRestarts (answers Book.play start L) ≡ answers Book.play start (withoutRestarts L)
+  pub restarts-alike : (L : List Call) → dropRestarts (answers Book.play (held start) L) ≡ answers Book.play (held start) (withoutRestarts L)
   restarts-alike L = ap dropRestarts (same L) ∙ restarts-p L beginning ∙ sym (same (withoutRestarts L))
 
   -- "A restart is an image stored into a long enough buffer and loaded, from exactly its bytes, into another ring of the right length,
   -- with which L goes on; P accepts both calls and does nothing": at every point of every L, whatever buffer and ring hold. Long enough
   -- is the length of the image that is stored there
   pub restart-accepted : (L : List Call) (buffer : List ℕ) (other : List ℤ)
-      → length other ≡ ringSize regions services window → imageLength (after Ledger.play beginning L) ≤ length buffer
-      → (Book.play (after Book.play start L) (restart buffer other) .answer ≡ restarted accepted)
+      → length other ≡ placesOf (settings start) → imageLength (after Ledger.play beginning L) ≤ length buffer
+      → (Book.play (after Book.play (held start) L) (restart buffer other) .answer ≡ restarted accepted)
       × (Ledger.play (after Ledger.play beginning L) (restart buffer other)
       ≡ record { state = after Ledger.play beginning L; answer = restarted accepted })
   restart-accepted L buffer other e h =
       let q = after Ledger.play beginning L in
       let size : length other ≡ placesOf (q .settings) = e ∙ ap placesOf (sym (settings-after L beginning)) in
       let p = restart-p q buffer other size h in (
-        last-alike Book.play Ledger.play L (restart buffer other) start beginning (same (L ++ restart buffer other ∷ []))
+        last-alike Book.play Ledger.play L (restart buffer other) (held start) beginning (same (L ++ restart buffer other ∷ []))
             ∙ ap (λ (x : Step Ledger). x .answer) p,
         p,
       )
 
   -- and 148 + 4 × R × M × W bytes are long enough at every point
   pub restart-always : (L : List Call) (buffer : List ℕ) (other : List ℤ)
-      → length other ≡ ringSize regions services window → 148 + 4 * ringSize regions services window ≤ length buffer
-      → (Book.play (after Book.play start L) (restart buffer other) .answer ≡ restarted accepted)
+      → length other ≡ placesOf (settings start) → 148 + 4 * placesOf (settings start) ≤ length buffer
+      → (Book.play (after Book.play (held start) L) (restart buffer other) .answer ≡ restarted accepted)
       × (Ledger.play (after Ledger.play beginning L) (restart buffer other)
       ≡ record { state = after Ledger.play beginning L; answer = restarted accepted })
   restart-always L buffer other e h =

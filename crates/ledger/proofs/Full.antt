@@ -12,19 +12,20 @@ use Rattle.laws.specs.Lists.{run, allBelow, firstOf}
 use Rattle.pricing.specs.Verdict.{refused}
 use Rattle.book.specs.declared.record.Settings.{Settings}
 use Rattle.book_calls.specs.Opening as Opening
+use Rattle.book_calls.specs.Setting.{thresholdVerdict}
 use Rattle.publishing.specs.Entry.{Entry, entryOf}
 use Rattle.entries.specs.Checking.{entryVerdict}
 use Rattle.ledger.specs.Calls.{Call, entry, Answer, entered, Step, answers, after}
 use Rattle.ledger.specs.Ledger as Ledger
 use Rattle.ledger.specs.Ledger.{Ledger, Item, interval, entriesOf, taken, kept}
 use Rattle.ledger.specs.Book as Book
-use Rattle.ledger.specs.Demand.{settingsOf, opening, Demand-3}
+use Rattle.ledger.specs.Demand.{opens, held, settingsOf}
 use Rattle.ledger.proofs.Histories.{taken-entry}
-use Rattle.ledger.proofs.Theorem.{demand-3}
+use Rattle.ledger.proofs.Corollaries.{from-opening}
 
 -- R 1, S 0, W 1, H 1, no parents
 abbrev pub settings : Settings
-settings = settingsOf 1 0 1 1 0 (λ r. 255) (pos 95000) (pos 60000) (negsuc 59999)
+settings = settingsOf 1 0 1 1 0 (λ r. 255) (pos 90000) (pos 60000) (negsuc 59999)
 
 -- an entry whose region is marked, lent a table that holds something
 abbrev marked : Entry
@@ -81,7 +82,7 @@ answers-append play [] M s = refl
 answers-append play (c ∷ L) M s = ap (λ (l : List Answer). play s c .answer ∷ l) (answers-append play L M (play s c .state))
 
 opening-accepted : Opening.opened settings (pos 77 ∷ []) .verdict .number ≡ 0
-unfolding Opening.opened Opening.openVerdict run allBelow
+unfolding Opening.opened Opening.openVerdict thresholdVerdict run allBelow
 opening-accepted = refl
 
 one-answer : (p : Ledger) (c : Call) → answers Ledger.play p (c ∷ []) ≡ Ledger.play p c .answer ∷ []
@@ -89,12 +90,11 @@ unfolding answers
 one-answer p c = refl
 
 -- so it is with the book
-pub full : (n : ℕ) → answers Book.play (opening settings (pos 77 ∷ [])) (run 10000000 0 call ++ call n ∷ [])
+pub full : (n : ℕ) → answers Book.play (held (opens settings (pos 77 ∷ []))) (run 10000000 0 call ++ call n ∷ [])
     ≡ answers Ledger.play (Ledger.begin settings) (run 10000000 0 call) ++ entered (refused 12) 0 (pos 9 ∷ []) ∷ []
-unfolding Demand-3
 full n =
     let L = run 10000000 0 call in
-    demand-3 1 0 1 1 0 (λ r. 255) (pos 95000) (pos 60000) (negsuc 59999) (pos 77 ∷ []) (L ++ call n ∷ []) opening-accepted .during
+    from-opening 1 0 1 1 0 (λ r. 255) (pos 90000) (pos 60000) (negsuc 59999) (pos 77 ∷ []) (L ++ call n ∷ []) opening-accepted .during
     ∙ answers-append Ledger.play L (call n ∷ []) (Ledger.begin settings)
     ∙ ap (λ (l : List Answer). answers Ledger.play (Ledger.begin settings) L ++ l)
     (one-answer (after Ledger.play (Ledger.begin settings) L) (call n) ∙ ap (λ (a : Answer). a ∷ []) (full-p n))

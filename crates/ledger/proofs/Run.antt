@@ -1,6 +1,6 @@
--- One long run, computed on both machines, with its literal answers: an accepted opening and every kind of call, so that no
--- hypothesis of DEMAND 3 is empty. Refusals 11, 13 to 19, 21 and 23 occur in it; 12 takes 10,000,000 entries (proofs/Full), and 10
--- and 22 never occur (proofs/Corollaries). Assumes nothing.
+-- One long run, computed on both machines, with its literal answers: an accepted load of an image, whose threshold no opening takes, and
+-- every kind of call, so that no hypothesis of DEMAND 3 is empty (proofs/Chains and Full begin with openings). Refusals 11, 13 to 19, 21,
+-- 23 and 44 occur in it; 12 takes 10,000,000 entries (Full), and 10 and 22 never occur (Corollaries). Assumes nothing.
 use mathlib.Core.Path.{_≡_, refl}
 use mathlib.Core.List.{List, [], _∷_}
 use Prim.Native.Nat.{ℕ}
@@ -16,7 +16,7 @@ use Rattle.pricing.specs.Carrying.{carried}
 use Rattle.pricing.specs.Passing.{cents}
 use Rattle.book.specs.declared.record.Settings.{Settings}
 use Rattle.book.specs.Validity.{valid}
-use Rattle.book_calls.specs.Opening as Opening
+use Rattle.book_calls.specs.Opening.{fresh}
 use Rattle.book_calls.specs.Setting.{thresholdVerdict, limitsVerdict, setThreshold, setLimits}
 use Rattle.book_calls.specs.Report as Report
 use Rattle.book_calls.specs.Report.{nothing}
@@ -37,15 +37,16 @@ use Rattle.ledger.specs.Calls.{Call, entry, threshold, limits, report, r
 use Rattle.ledger.specs.Ledger as Ledger
 use Rattle.ledger.specs.Ledger.{entriesOf, before, lastSet, unmarkedPrices, administeredAt, countsTo, restartVerdict}
 use Rattle.ledger.specs.Book as Book
-use Rattle.ledger.specs.Demand.{settingsOf, opening}
+use Rattle.ledger.specs.Demand as Demand
+use Rattle.ledger.specs.Demand.{Start, loads, Begins, settingsOf}
 
 -- R 2, S 1, W 2, H 1, parents 255 and 0. A day has six positions and the first is 3, so that entry 2 is at D−1
 abbrev pub settings : Settings
 settings = settingsOf 2 1 2 1 3 (λ r. getD (255 ∷ 0 ∷ []) r 255) (pos 95000) (pos 60000) (negsuc 59999)
 
--- a ring that held something
-abbrev pub ring : List ℤ
-ring = replicate 8 (pos 77)
+-- an image of a book with these settings and without entries, loaded into a ring that held something
+abbrev pub start : Start
+start = loads (imageOf (fresh settings) []) (replicate 8 (pos 77))
 
 -- ---- entries: lent a ring by its length, a number, a day kind, prices, marks, B's factor; B's power always goes to A
 abbrev lent : ℕ → ℕ → ℕ → List ℤ → List ℕ → ℕ → Call
@@ -67,9 +68,12 @@ plain = prices (pos 1) (pos 2) (pos 3) (pos 4)
 abbrev pub calls : List Call
 calls =
     report 0 0
-    -- A's energy 100,000 is above the threshold: a trigger
+    -- no multiple of 10,000: 95,000 stays, though it is none itself
+    ∷ threshold (pos 85000)
+    -- A's energy 100,000 is above the threshold: a trigger; B's isn't
     ∷ enters 0 0 (prices (pos 100000) (pos 250) (pos 90000) (pos 300)) (0 ∷ 0 ∷ [])
     ∷ report 0 0
+    ∷ report 1 0
     -- A is held, its service capped, and its cap is passed on to B; B triggers
     ∷ enters 1 0 (prices (pos 100000) (pos 70000) (pos 90000) (pos 80000)) (0 ∷ 0 ∷ [])
     ∷ report 1 0
@@ -81,7 +85,7 @@ calls =
     ∷ enters 2 1 (prices (negsuc 0) (negsuc 0) (pos 48000) (pos 1000)) (1 ∷ 0 ∷ [])
     ∷ report 0 0
     ∷ report 1 0
-    -- a ring of a wrong length, then 13 to 19 and 21
+    -- a ring of a wrong length, then 13 to 18, 44, 19 and 21
     ∷ lent 7 3 0 plain (0 ∷ 0 ∷ []) 11000
     ∷ enters 4 0 plain (0 ∷ 0 ∷ [])
     ∷ enters 3 2 plain (0 ∷ 0 ∷ [])
@@ -89,6 +93,7 @@ calls =
     ∷ enters 3 0 (prices (pos 1) (pos 2) (pos 3) (negsuc 0)) (0 ∷ 0 ∷ [])
     ∷ lent 8 3 0 plain (0 ∷ 0 ∷ []) 9999
     ∷ threshold (pos 0)
+    ∷ threshold (pos 99999999999)
     ∷ limits (pos 5) (pos 0)
     ∷ report 0 2
     ∷ report 2 0
@@ -113,8 +118,10 @@ numbers sum counted mark entries = reported (record { verdict = accepted; sum = 
 abbrev pub expected : List Answer
 expected =
     numbers (pos 0) 0 0 0
+    ∷ set (refused 44)
     ∷ published-as 0 (prices (pos 100000) (pos 250) (pos 90000) (pos 300))
     ∷ numbers (pos 100000) 1 1 1
+    ∷ numbers (pos 90000) 1 0 1
     ∷ published-as 3 (prices (pos 60000) (pos 60000) (pos 54545) (pos 80000))
     ∷ numbers (pos 180000) 2 1 2
     ∷ set accepted
@@ -130,6 +137,7 @@ expected =
     ∷ unwritten (refusedAt 16 3)
     ∷ unwritten (refusedAt 17 1)
     ∷ set (refused 18)
+    ∷ set (refused 44)
     ∷ set (refused 19)
     ∷ reported (nothing (refused 21))
     ∷ reported (nothing (refused 21))
@@ -139,11 +147,12 @@ expected =
     ∷ published-as 0 (prices (pos 100001) (pos 0) (pos 10000) (pos 0))
     ∷ numbers (pos 200001) 2 1 4 ∷ numbers (pos 70000) 2 0 4 ∷ numbers (pos 58000) 2 0 4 ∷ numbers (pos 1000) 2 0 4 ∷ []
 
-pub opening-accepted : Opening.opened settings ring .verdict .number ≡ 0
-unfolding Opening.opened Opening.openVerdict run allBelow
-opening-accepted = refl
+-- P's list may begin with it
+pub begins : Begins start
+unfolding valid run firstOf allBelow imageOf values firsts seconds words widths encode le joined sumFrom loaded loadVerdict headVerdict numberAt number decode bookOf badFrom bookFrom ringFrom windowsFrom sumsFrom total
+begins = record { accepted = refl; fit = record { entries = refl; marks = refl } }
 
--- the book from its opening, and P
-pub runs : (answers Book.play (opening settings ring) calls ≡ expected) × (answers Ledger.play (Ledger.begin settings) calls ≡ expected)
-unfolding answers Book.play Ledger.play Opening.opened Opening.openVerdict valid Entering.entered entryVerdict setThreshold setLimits thresholdVerdict limitsVerdict entriesOf before lastSet unmarkedPrices administeredAt countsTo restartVerdict run firstOf countBelow allBelow anyBelow total lastN Ledger.reportOf Report.reportOf Report.reportVerdict published effective scheduled cappedBy anyAdministered hasLimit limit atMost atLeast powerOf tighter over Routes.limitOf Routes.overAll Routes.routesFrom Routes.along Routes.joined Routes.after minZ maxZ held carried cents inCents rounded nearest stored storeVerdict imageOf values firsts seconds words widths encode le joined sumFrom loaded loadVerdict headVerdict numberAt number decode bookOf badFrom bookFrom ringFrom windowsFrom sumsFrom
+-- the book as loaded, and P
+pub runs : (answers Book.play (Demand.held start) calls ≡ expected) × (answers Ledger.play (Ledger.begin (Demand.settings start)) calls ≡ expected)
+unfolding answers Book.play Ledger.play valid Entering.entered entryVerdict setThreshold setLimits thresholdVerdict limitsVerdict entriesOf before lastSet unmarkedPrices administeredAt countsTo restartVerdict run firstOf countBelow allBelow anyBelow total lastN Ledger.reportOf Report.reportOf Report.reportVerdict published effective scheduled cappedBy anyAdministered hasLimit limit atMost atLeast powerOf tighter over Routes.limitOf Routes.overAll Routes.routesFrom Routes.along Routes.joined Routes.after minZ maxZ held carried cents inCents rounded nearest stored storeVerdict imageOf values firsts seconds words widths encode le joined sumFrom loaded loadVerdict headVerdict numberAt number decode bookOf badFrom bookFrom ringFrom windowsFrom sumsFrom
 runs = (refl, refl)

@@ -23,7 +23,7 @@ use Rattle.book_calls.specs.Setting as Setting
 use Rattle.book_calls.specs.Setting.{thresholdVerdict, limitsVerdict, withSettings, changed, setThreshold, setLimits}
 use Rattle.book.proofs.Validities.{Valid, valid-is, is-valid}
 use Rattle.book.proofs.Passes.{passes-not}
-use Rattle.book_calls.proofs.Kept.{setting-valid}
+use Rattle.book_calls.proofs.Kept.{threshold-is, setting-valid}
 use Rattle.head.specs.Counted.{inOrder, marketCount}
 use Rattle.image.specs.Storing.{pricesOk}
 use Rattle.image.specs.Same.{Same}
@@ -223,10 +223,9 @@ module _ (b : Book) (ring : List ℤ) (nexts : List ℕ) (ring′ : List ℤ) (v
       rw t (record { verdict = refl; same = nexts-alone (withSettings b threshold cap floor) ring nexts ring′ over set set′ }))
       (λ t. rw t (record { verdict = refl; same = nexts-alone b ring nexts ring′ rings v w })))
 
-threshold-is : (b : Book) → valid b ≡ true → (threshold : ℤ) → isAccepted (thresholdVerdict threshold) ≡ true
+threshold-and : (b : Book) → valid b ≡ true → (threshold : ℤ) → isAccepted (thresholdVerdict threshold) ≡ true
     → (thresholdOk threshold ≡ true) × (limitsOk (b .cap) (b .floor) ≡ true)
-unfolding thresholdVerdict
-threshold-is b v threshold t = (passes-not (thresholdOk threshold) (refused 18) accepted refl t .0, valid-is b v .limits)
+threshold-and b v threshold t = (threshold-is threshold t .0, valid-is b v .limits)
 
 limits-are : (b : Book) → valid b ≡ true → (cap floor : ℤ) → isAccepted (limitsVerdict cap floor) ≡ true
     → (thresholdOk (b .threshold) ≡ true) × (limitsOk cap floor ≡ true)
@@ -254,7 +253,7 @@ module _ (b : Book) (ring : List ℤ) (b′ : Book) (ring′ : List ℤ) (s : Sa
   threshold-same threshold =
       along b ring b′ ring′ s (λ c. Changed-alike ring ring′ (setThreshold b threshold) (setThreshold c threshold))
       (λ rings w. changed-is b ring (b′ .nexts) ring′ (s .accepted) w rings (thresholdVerdict threshold) threshold (b .cap) (b .floor)
-      (threshold-is b (s .accepted) threshold))
+      (threshold-and b (s .accepted) threshold))
 
   pub limits-same : (cap floor : ℤ) → Changed-alike ring ring′ (setLimits b cap floor) (setLimits b′ cap floor)
   unfolding setLimits

@@ -9,18 +9,16 @@ use lib.Dec.{eqb, ltb}
 use lib.IntN.{ℤ, pos}
 use lib.ListN.{length, take, getD}
 use Rattle.laws.specs.Base.{pick}
-use Rattle.laws.specs.Lists.{tabulate}
 use Rattle.laws.proofs.Tests.{by-test}
-use Rattle.laws.proofs.Lists.{length-run}
 use Rattle.pricing.specs.Verdict.{Verdict, accepted, refused}
 use Rattle.pricing.specs.Holding.{limitsOk}
 use Rattle.book.specs.declared.record.Book.{Book}
 use Rattle.book.specs.declared.record.Settings.{Settings}
 use Rattle.book.specs.Record.{marketsOf, placeOf, ringSize, isAccepted}
-use Rattle.book.specs.Validity.{thresholdOk, valid}
+use Rattle.book.specs.Validity.{valid}
 use Rattle.book_calls.specs.Setting.{thresholdVerdict, limitsVerdict, withSettings, setThreshold, setLimits}
 use Rattle.book.proofs.Validities.{valid-is}
-use Rattle.book_calls.proofs.Kept.{setting-valid}
+use Rattle.book_calls.proofs.Kept.{threshold-is, threshold-accepted, setting-valid}
 use Rattle.publishing.specs.declared.Terms.{Terms}
 use Rattle.publishing.specs.Entry.{Entry}
 use Rattle.publishing.specs.Published.{tableOf, countOf}
@@ -38,11 +36,8 @@ use Rattle.ledger.proofs.Checks.{Passed, passed, entryOutcome, entered-
 use Rattle.ledger.proofs.Agrees.{Agree, shape-agrees, terms-agree, entry-agrees, setting-agrees}
 use Rattle.ledger.proofs.Reports.{mark-agrees, report-agrees}
 use Rattle.ledger.proofs.Restarts.{restart-alike}
-use Rattle.ledger.proofs.Begins.{begins}
-use Rattle.ledger.specs.Demand.{settingsOf, opening, Answers-alike, Demand-3}
-use Rattle.book_calls.specs.Opening as Opening
-use Rattle.book_calls.specs.Opening.{fresh}
-use Rattle.book_calls.proofs.Kept.{opened-is}
+use Rattle.ledger.proofs.Begins.{start-agrees}
+use Rattle.ledger.specs.Demand.{held, settings, Answers-alike, Demand-3}
 
 -- what a call comes to: it is answered alike, and what is then held agrees
 abbrev pub Alike : Step Held → Step Ledger → Type 0
@@ -51,13 +46,14 @@ Alike x y = (x .answer ≡ y .answer) × Agree (x .state) (y .state)
 module _ (s : Held) (p : Ledger) (a : Agree s p) where
   -- ---- the settings
   threshold-alike : (x : ℤ) → Alike (Book.play s (threshold x)) (Ledger.play p (threshold x))
-  unfolding Book.play Ledger.play setThreshold thresholdVerdict entriesOf
+  unfolding Book.play Ledger.play setThreshold entriesOf
   threshold-alike x =
-      by-test (thresholdOk x)
-      (λ t. rw (a .holds .accepted, t) (
+      by-test (isAccepted (thresholdVerdict x))
+      (λ t. rw (a .holds .accepted, threshold-accepted x t) (
         refl,
         setting-agrees s p a (threshold-set x) refl x (s .book .cap) (s .book .floor) refl refl refl
-            (setting-valid (s .book) x (s .book .cap) (s .book .floor) (a .holds .accepted) t (valid-is (s .book) (a .holds .accepted) .limits)),
+            (setting-valid (s .book) x (s .book .cap) (s .book .floor) (a .holds .accepted) (threshold-is x t .0)
+            (valid-is (s .book) (a .holds .accepted) .limits)),
       ))
       (λ t. rw (a .holds .accepted, t) (refl, a))
 
@@ -197,16 +193,7 @@ alike L s p a =
         let j : market < marketsOf (after Book.play s L .book .services) = omega (arith, w .services, ap (λ (t : Settings). t .services) (settings-after L p)) in
         mark-agrees (after Book.play s L) (after Ledger.play p L) w region market i j
 
--- a book that was just opened agrees
-pub opening-agrees : (t : Settings) (ring : List ℤ) → length (t .parents) ≡ 8 → Opening.opened t ring .verdict .number ≡ 0
-    → Agree (opening t ring) (Ledger.begin t)
-opening-agrees t ring eight e =
-    let o = opened-is t ring (eq-eqb (Opening.opened t ring .verdict .number) 0 e) in
-    rw (o .1, o .2) (begins t (length ring) (o .0) eight)
-
--- and from an opening that is accepted: DEMAND 3
+-- and from every start that P's list may begin with: DEMAND 3
 pub demand-3 : Demand-3
 unfolding Demand-3
-demand-3 regions services window halves first parents θ cap floor ring L e =
-    let t = settingsOf regions services window halves first parents θ cap floor in
-    alike L (opening t ring) (Ledger.begin t) (opening-agrees t ring (length-run parents 8 0) e)
+demand-3 start L b = alike L (held start) (Ledger.begin (settings start)) (start-agrees start b)

@@ -20,7 +20,6 @@ use Rattle.pricing.specs.Verdict.{accepted, refused}
 use Rattle.book.specs.declared.record.Settings.{Settings}
 use Rattle.book.specs.Record.{marketsOf, isAccepted}
 use Rattle.book.proofs.Passes.{passes-not}
-use Rattle.book_calls.specs.Opening as Opening
 use Rattle.book_calls.specs.Setting.{thresholdVerdict, limitsVerdict}
 use Rattle.book_calls.specs.Report as Report
 use Rattle.book_calls.specs.Report.{reportVerdict}
@@ -31,11 +30,12 @@ use Rattle.ledger.specs.Ledger as Ledger
 use Rattle.ledger.specs.Ledger.{interval, threshold-set, limits-set, Ledger, entriesOf, taken, unmarkedPrices, lastPrices}
 use Rattle.ledger.specs.Book as Book
 use Rattle.ledger.specs.Book.{Held}
-use Rattle.ledger.specs.Demand.{settingsOf, opening}
+use Rattle.ledger.specs.Demand.{Start, held, settings, Begins}
 use Rattle.ledger.proofs.Histories.{entries-append, unmarked-append}
 use Rattle.ledger.proofs.Agrees.{Agree}
 use Rattle.ledger.proofs.Reports.{report-agrees}
-use Rattle.ledger.proofs.Theorem.{plays, settings-after, opening-agrees}
+use Rattle.ledger.proofs.Begins.{start-agrees}
+use Rattle.ledger.proofs.Theorem.{plays, settings-after}
 use Rattle.planning.specs.Left.{exceeds, Least, leftVerdict, windowIn, marketLeft, intervalsLeft}
 use Rattle.planning.specs.Meaning.{acceptedIn, brought, aboveAfter, asked, Foretells, askedVerdict, Answered, Foretold}
 use Rattle.planning.proofs.Least.{least-is, none-is}
@@ -191,35 +191,31 @@ module _ (s : Held) (p : Ledger) (a : Agree s p) where
               tests K k false w (none-is (s .book .window) window x (s .book .threshold) (sym number-is ∙ q) k some most);
         }
 
--- ---- and after any list of calls from an opening that is accepted
-module _ (regions services window halves first : ℕ) (parents : ℕ → ℕ) (θ cap floor : ℤ) (ring : List ℤ)
-    (e : Opening.opened (settingsOf regions services window halves first parents θ cap floor) ring .verdict .number ≡ 0) (L : List Call) where
-  abbrev settings : Settings
-  settings = settingsOf regions services window halves first parents θ cap floor
-
+-- ---- and after any list of calls from a start that P's list may begin with
+module _ (start : Start) (b : Begins start) (L : List Call) where
   abbrev now : Held
-  now = after Book.play (opening settings ring) L
+  now = after Book.play (held start) L
 
   abbrev ledger : Ledger
-  ledger = after Ledger.play (Ledger.begin settings) L
+  ledger = after Ledger.play (Ledger.begin (settings start)) L
 
   agrees : Agree now ledger
-  agrees = plays L (opening settings ring) (Ledger.begin settings) (opening-agrees settings ring (length-run parents 8 0) e) .1
+  agrees = plays L (held start) (Ledger.begin (settings start)) (start-agrees start b) .1
 
-  verdict-of : (r m : ℕ) (x : ℤ) → askedVerdict (now .book .regions) (now .book .services) r m x ≡ askedVerdict regions services r m x
+  verdict-of : (r m : ℕ) (x : ℤ)
+      → askedVerdict (now .book .regions) (now .book .services) r m x ≡ askedVerdict (settings start .regions) (settings start .services) r m x
   verdict-of r m x =
-      let t : ledger .settings ≡ settings = settings-after L (Ledger.begin settings) in
-      let R : now .book .regions ≡ regions = sym (agrees .regions) ∙ ap (λ (u : Settings). u .regions) t in
-      let S : now .book .services ≡ services = sym (agrees .services) ∙ ap (λ (u : Settings). u .services) t in
+      let t : ledger .settings ≡ settings start = settings-after L (Ledger.begin (settings start)) in
+      let R : now .book .regions ≡ settings start .regions = sym (agrees .regions) ∙ ap (λ (u : Settings). u .regions) t in
+      let S : now .book .services ≡ settings start .services = sym (agrees .services) ∙ ap (λ (u : Settings). u .services) t in
       ap₂ (λ (i j : ℕ). askedVerdict i j r m x) R S
 
 pub answered : Answered
 unfolding Answered
-answered R S W H first parents θ cap floor ring L r m x e =
-    let a = agrees R S W H first parents θ cap floor ring e L in
-    asked-is _ _ a r m x ∙ verdict-is _ _ a r m x ∙ verdict-of R S W H first parents θ cap floor ring e L r m x
+answered start L r m x b =
+    let a = agrees start b L in
+    asked-is _ _ a r m x ∙ verdict-is _ _ a r m x ∙ verdict-of start b L r m x
 
 pub foretold : Foretold
 unfolding Foretold
-foretold R S W H first parents θ cap floor ring L r m x e ok =
-    foretells _ _ (agrees R S W H first parents θ cap floor ring e L) r m x (verdict-of R S W H first parents θ cap floor ring e L r m x ∙ ok)
+foretold start L r m x b ok = foretells _ _ (agrees start b L) r m x (verdict-of start b L r m x ∙ ok)

@@ -1,6 +1,7 @@
 -- What the number of intervals left means. Read this file first. `proofs/Brought` proves `Answered` and `Foretold`. Assumes nothing.
 --
--- In words: open a book and play any list L of calls. Then the question for a market and a price is answered, whatever L was: 10, 11
+-- In words: begin with a book that is opened, or loaded from an image without entries and with no period marked, and play any list L of
+-- calls. Then the question for a market and a price is answered, whatever L was: 10, 11
 -- and 22 never occur, and only 21 and 43 may. Let n be the answer. Play any further calls K that bring the market's window exactly k
 -- prices, all of them the price that was asked about. If k is n, the sum is above the threshold that the book had after L; if k is 1
 -- or more but less than n, it isn't; and if n is 0, it isn't for any k from 1 to W. K may do anything besides: refused calls,
@@ -16,7 +17,6 @@ use Rattle.laws.specs.Base.{pick}
 use Rattle.pricing.specs.Verdict.{Verdict, accepted, refused}
 use Rattle.pricing.specs.Holding.{isEnergy, inRange}
 use Rattle.book.specs.Record.{marketsOf, isAccepted}
-use Rattle.book_calls.specs.Opening as Opening
 use Rattle.book_calls.specs.Report as Report
 use Rattle.book_calls.specs.Report.{reportVerdict}
 use Rattle.publishing.specs.Entry.{Entry}
@@ -24,7 +24,7 @@ use Rattle.ledger.specs.Calls.{Call, entry, threshold, limits, report, restart,
 use Rattle.ledger.specs.Ledger.{unmarkedPrices}
 use Rattle.ledger.specs.Book as Book
 use Rattle.ledger.specs.Book.{Held}
-use Rattle.ledger.specs.Demand.{settingsOf, opening}
+use Rattle.ledger.specs.Demand.{Start, held, settings, Begins}
 use Rattle.planning.specs.Left as Left
 use Rattle.planning.specs.Left.{intervalsLeft}
 
@@ -74,17 +74,12 @@ askedVerdict regions services region market price =
 
 unfoldable pub Answered : Type 0
 Answered =
-    (regions services window halves first : ℕ) (parents : ℕ → ℕ) (threshold cap floor : ℤ) (ring : List ℤ) (L : List Call)
-    (region market : ℕ) (price : ℤ)
-    → Opening.opened (settingsOf regions services window halves first parents threshold cap floor) ring .verdict .number ≡ 0
-    → asked (after Book.play (opening (settingsOf regions services window halves first parents threshold cap floor) ring) L)
-    region market price .verdict ≡ askedVerdict regions services region market price
+    (start : Start) (L : List Call) (region market : ℕ) (price : ℤ) → Begins start
+    → asked (after Book.play (held start) L) region market price .verdict
+    ≡ askedVerdict (settings start .regions) (settings start .services) region market price
 
 unfoldable pub Foretold : Type 0
 Foretold =
-    (regions services window halves first : ℕ) (parents : ℕ → ℕ) (threshold cap floor : ℤ) (ring : List ℤ) (L : List Call)
-    (region market : ℕ) (price : ℤ)
-    → Opening.opened (settingsOf regions services window halves first parents threshold cap floor) ring .verdict .number ≡ 0
-    → askedVerdict regions services region market price ≡ accepted
-    → Foretells (after Book.play (opening (settingsOf regions services window halves first parents threshold cap floor) ring) L)
-    region market price
+    (start : Start) (L : List Call) (region market : ℕ) (price : ℤ) → Begins start
+    → askedVerdict (settings start .regions) (settings start .services) region market price ≡ accepted
+    → Foretells (after Book.play (held start) L) region market price

@@ -4,7 +4,7 @@ use mathlib.Core.Bool.{Bool, true, false, not, _&&_}
 use mathlib.Core.List.{List, [], _∷_, _++_}
 use Prim.Native.Nat.{ℕ, _+_, _-_, _≤_}
 use native.Mathlib.Omega.{arith}
-use borrow.Author.Tests.{leb-true, eq-eqb}
+use borrow.Author.Tests.{leb-true, eqb-true, eq-eqb}
 use lib.Dec.{eqb, leb}
 use lib.IntN.{ℤ, pos}
 use lib.ListN.{length, take, drop, replicate, length-replicate, length-append}
@@ -16,16 +16,15 @@ use Rattle.laws.proofs.Lists.{length-run}
 use Rattle.laws.proofs.Bytes.{sets-append}
 use Rattle.pricing.specs.Verdict.{Verdict, accepted, refused}
 use Rattle.book.specs.declared.record.Settings.{Settings}
-use Rattle.pricing.specs.Holding.{limitsOk}
 use Rattle.book.specs.Record.{ringSize, isAccepted}
-use Rattle.book.specs.Validity.{shapeOk, parentsOk, thresholdOk}
 use Rattle.book_calls.specs.Opening as Opening
 use Rattle.book_calls.specs.Opening.{openVerdict}
-use Rattle.book_calls.proofs.Kept.{opened-is, opened-not}
+use Rattle.book_calls.proofs.Kept.{opened-verdict, opened-is, opened-not}
 use Rattle.ledger.specs.Calls.{Call, Answer, Step, answers}
 use Rattle.ledger.specs.Ledger as Ledger
 use Rattle.ledger.proofs.Agrees.{Agree}
-use Rattle.ledger.proofs.Begins.{begins}
+use Rattle.ledger.specs.Demand.{opens}
+use Rattle.ledger.proofs.Begins.{start-agrees}
 use Rattle.records.specs.Reading.{parentAt, settingsIn}
 use Rattle.records.specs.Writing.{plainRecord}
 use Rattle.records.proofs.Written.{length-head}
@@ -40,26 +39,6 @@ use Rattle.replay.proofs.Refusing.{refuse, refuses, Closed, refusing-st
 
 pub part-room : (size room : ℕ) → partOf size room ≤ room
 part-room size room = by-test (leb size room) (λ t. rw t (leb-true size room t)) (λ t. rw t (omega arith))
-
--- an opening answers its verdict
-last-case : (a b d e : Bool) → isAccepted (pick a (refused 20) (pick b (refused 11) (pick d (refused 18) (pick e (refused 19) accepted)))) ≡ true
-    → pick a (refused 20) (pick b (refused 11) (pick d (refused 18) (pick e (refused 19) accepted))) ≡ accepted
-last-case true b d e t = never (isAccepted (refused 20)) t refl
-last-case false true d e t = never (isAccepted (refused 11)) t refl
-last-case false false true e t = never (isAccepted (refused 18)) t refl
-last-case false false false true t = never (isAccepted (refused 19)) t refl
-last-case false false false false t = refl
-
-open-accepted : (s : Settings) (n : ℕ) → isAccepted (openVerdict s n) ≡ true → openVerdict s n ≡ accepted
-unfolding openVerdict
-open-accepted s n t =
-    last-case (not (shapeOk (s .regions) (s .services) (s .window) (s .halves) (s .first) && parentsOk (s .regions) (s .parents)))
-    (not (eqb n (ringSize (s .regions) (s .services) (s .window)))) (not (thresholdOk (s .threshold))) (not (limitsOk (s .cap) (s .floor))) t
-
-opened-verdict : (s : Settings) (ring : List ℤ) → Opening.opened s ring .verdict ≡ openVerdict s (length ring)
-unfolding Opening.opened
-opened-verdict s ring =
-    by-test (isAccepted (openVerdict s (length ring))) (λ t. rw t (sym (open-accepted s (length ring) t))) (λ t. rw t)
 
 module _ (c : List ℕ) (m : Lent) where
   abbrev s : State
@@ -98,8 +77,7 @@ module _ (c : List ℕ) (m : Lent) where
 
   begun-agree : isAccepted v ≡ true → Agree (heldOf s) (Ledger.begin (settingsIn c))
   begun-agree t =
-      let o = opened-is (settingsIn c) part t in
-      rw (o .1, o .2) (begins (settingsIn c) (length part) (o .0) (length-run (parentAt c) 8 0))
+      start-agrees (opens (settingsIn c) part) (record { accepted = eqb-true (v .number) 0 t; fit = length-run (parentAt c) 8 0 })
 
   -- what is written, of the answers to the calls
   abbrev told : List Answer → List ℕ

@@ -12,7 +12,6 @@ use Rattle.laws.proofs.Tests.{by-test, never}
 use Rattle.pricing.specs.Verdict.{accepted}
 use Rattle.book.specs.Record.{isAccepted}
 use Rattle.book_calls.specs.Opening as Opening
-use Rattle.book_calls.specs.Opening.{opened}
 use Rattle.book_calls.specs.Setting as Setting
 use Rattle.image.specs.Storing as Storing
 use Rattle.image.specs.Loading as Loading
@@ -22,14 +21,14 @@ use Rattle.ledger.specs.Calls.{entered, set, reported, restarted, answers, Neve
 use Rattle.ledger.specs.Book as Book
 use Rattle.ledger.specs.Book.{Held, isOwn}
 use Rattle.ledger.specs.Demand as Demand
-use Rattle.ledger.specs.Demand.{settingsOf, opening}
+use Rattle.ledger.specs.Demand.{Start, opens, loads, verdict, held, Fit, Begins}
 use Rattle.ledger.proofs.Theorem.{demand-3}
 use Rattle.ledger.proofs.Corollaries.{never-10-22}
 use Rattle.face.specs.declared.Kept.{Kept}
 use Rattle.face.specs.declared.Written.{Written}
-use Rattle.face.specs.Face.{verdictBy, openedOf, storedOf, loadedOf}
+use Rattle.face.specs.Face.{verdictBy, storedOf, loadedOf}
 use Rattle.session.specs.Session.{Made, made-entry, made-threshold, made-limits, made-report, made-restart}
-use Rattle.session.specs.Session.{called, Meets, next, said, allCalled, allSaid, Session, Demand-3}
+use Rattle.session.specs.Session.{called, Meets, next, said, allCalled, allSaid, Session, Began, Demand-3}
 
 -- a load that answers 0 is an acceptance, and its place is 0
 load-accepted : (bytes : List ℕ) (ring : List ℤ) → eqb (loaded bytes ring .verdict .number) 0 ≡ true
@@ -95,32 +94,34 @@ sessions (m ∷ l) s h =
     let e = same s m (h .0) in
     ap₂ _∷_ (e .0) (sessions l (next s m) (h .1) ∙ ap (λ (t : Held). answers Book.play t (allCalled l)) (e .1))
 
--- ---- from an opening that is accepted
-module _ (regions services window halves first : ℕ) (parents : ℕ → ℕ) (θ cap floor : ℤ) (ring ring′ : List ℤ) (k : Kept) (l : List Made)
-    (e : openedOf k ring′ ≡ opened (settingsOf regions services window halves first parents θ cap floor) ring)
-    (z : k .number ≡ 0) (h : Session (record { book = k .book; ring = ring′ }) l) where
-  -- what was opened is the opening of demand 3
-  start-same : record { book = k .book; ring = ring′ } ≡ opening (settingsOf regions services window halves first parents θ cap floor) ring
-  start-same = ap (λ (o : Opening.Outcome). record { book = o .book; ring = o .ring }) e
+-- ---- from a start that P's list may begin with
+-- what the host then holds is what demand 3 begins with, and its answer is that start's
+start-same : (start : Start) (k : Kept) (ring′ : List ℤ) → Began start k ring′ → record { book = k .book; ring = ring′ } ≡ held start
+unfolding Began
+start-same (opens s ring) k ring′ e = ap (λ (o : Opening.Outcome). record { book = o .book; ring = o .ring }) e
+start-same (loads image ring) k ring′ e = ap (λ (o : Loading.Outcome). record { book = o .book; ring = o .ring }) e
 
-  start-accepted : opened (settingsOf regions services window halves first parents θ cap floor) ring .verdict .number ≡ 0
-  start-accepted = sym (ap (λ (o : Opening.Outcome). o .verdict .number) e) ∙ z
+start-number : (start : Start) (k : Kept) (ring′ : List ℤ) → Began start k ring′ → verdict start .number ≡ k .number
+unfolding Began
+start-number (opens s ring) k ring′ e = sym (ap (λ (o : Opening.Outcome). o .verdict .number) e)
+start-number (loads image ring) k ring′ e = sym (ap (λ (o : Loading.Outcome). o .verdict .number) e)
 
-  by-the-book : allSaid l
-      ≡ answers Book.play (opening (settingsOf regions services window halves first parents θ cap floor) ring) (allCalled l)
+module _ (start : Start) (k : Kept) (ring′ : List ℤ) (l : List Made) (e : Began start k ring′) (z : k .number ≡ 0) (f : Fit start)
+    (h : Session (record { book = k .book; ring = ring′ }) l) where
+  begins : Begins start
+  begins = record { accepted = start-number start k ring′ e ∙ z; fit = f }
+
+  by-the-book : allSaid l ≡ answers Book.play (held start) (allCalled l)
   by-the-book =
-      sessions l (record { book = k .book; ring = ring′ }) h ∙ ap (λ (x : Held). answers Book.play x (allCalled l)) start-same
+      sessions l (record { book = k .book; ring = ring′ }) h
+      ∙ ap (λ (x : Held). answers Book.play x (allCalled l)) (start-same start k ring′ e)
 
   -- "10 and 22 never occur"
   pub never-10-22-in-C : Never 10 (allSaid l) × Never 22 (allSaid l)
-  never-10-22-in-C =
-      rw by-the-book
-      (never-10-22 regions services window halves first parents θ cap floor ring start-accepted (allCalled l))
+  never-10-22-in-C = rw by-the-book (never-10-22 start begins (allCalled l))
 
 -- THE THEOREM
 pub demand-3-in-C : Demand-3
 unfolding Demand-3 Demand.Demand-3
-demand-3-in-C regions services window halves first parents θ cap floor ring ring′ k l e z h =
-    by-the-book regions services window halves first parents θ cap floor ring ring′ k l e z h
-    ∙ demand-3 regions services window halves first parents θ cap floor ring (allCalled l)
-    (start-accepted regions services window halves first parents θ cap floor ring ring′ k l e z h) .during
+demand-3-in-C start k ring′ l e z f h =
+    by-the-book start k ring′ l e z f h ∙ demand-3 start (allCalled l) (begins start k ring′ l e z f h) .during

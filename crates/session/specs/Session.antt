@@ -1,8 +1,8 @@
 -- DEMAND 3 OVER SEQUENCES OF C CALLS: what a host is answered that keeps a book and a ring in its own memory and hands them to each
 -- call. `proofs/Theorem` proves `Demand-3`. Assumes nothing.
 --
--- In words: a host opens a book by `guxhamole_open` with any settings over any ring. If the answer's number is 0, then for every list L
--- of calls (entries, threshold and limit settings, reports and restarts, with any arguments, refused ones too), each made by the
+-- In words: a host opens a book by `guxhamole_open` with any settings over any ring, or loads one by `guxhamole_load` from an image of a
+-- book without entries and with no period marked into any ring. If the answer's number is 0, then for every list L of calls (entries, threshold and limit settings, reports and restarts, with any arguments, refused ones too), each made by the
 -- function of crates/capi on the book and ring that the call before left, the answers are exactly those of the ledger machine P:
 -- number and place; an entry's count and table; a report's four numbers. A restart is a store and, where that is accepted, a load of
 -- exactly the stored bytes into another ring; refused by either, the host goes on with the book and ring that it has.
@@ -26,7 +26,7 @@ use Rattle.entries.specs.Entering as Entering
 use Rattle.ledger.specs.Calls.{Call, entry, threshold, limits, report, restart, Answer, entered, set, reported, restarted, answers}
 use Rattle.ledger.specs.Ledger as Ledger
 use Rattle.ledger.specs.Book.{Held, isOwn}
-use Rattle.ledger.specs.Demand.{settingsOf}
+use Rattle.ledger.specs.Demand.{Start, opens, loads, settings, Fit}
 use Rattle.face.specs.declared.Kept.{Kept}
 use Rattle.face.specs.declared.Taken.{Taken}
 use Rattle.face.specs.declared.Seen.{Seen}
@@ -96,13 +96,15 @@ unfoldable pub Session : Held → List Made → Type 0
 Session s [] = Unit {0}
 Session s (m ∷ l) = Meets s m × Session (next s m) l
 
--- the theorem: where `guxhamole_open` answered an acceptance, every session from there is answered as P answers its calls
+-- how the host began: `guxhamole_open` or `guxhamole_load` kept its contract, answered this and left the ring so
+unfoldable pub Began : Start → Kept → List ℤ → Type 0
+Began (opens s ring) k ring′ = openedOf k ring′ ≡ opened s ring
+Began (loads image ring) k ring′ = loadedOf k ring′ ≡ loaded image ring
+
+-- the theorem: where that answer was an acceptance, every session from there is answered as P answers its calls
 unfoldable pub Demand-3 : Type 0
 Demand-3 =
-    (regions services window halves first : ℕ) (parents : ℕ → ℕ) (cents cap floor : ℤ) (ring ring′ : List ℤ)
-    (k : Kept) (l : List Made)
-    → openedOf k ring′ ≡ opened (settingsOf regions services window halves first parents cents cap floor) ring
-    → k .number ≡ 0
+    (start : Start) (k : Kept) (ring′ : List ℤ) (l : List Made)
+    → Began start k ring′ → k .number ≡ 0 → Fit start
     → Session (record { book = k .book; ring = ring′ }) l
-    → allSaid l
-    ≡ answers Ledger.play (Ledger.begin (settingsOf regions services window halves first parents cents cap floor)) (allCalled l)
+    → allSaid l ≡ answers Ledger.play (Ledger.begin (settings start)) (allCalled l)
