@@ -3,6 +3,7 @@
 //   w          with these parents books are opened from here on (255 where none is given)
 //   a          a ring of so many places is lent from here on
 //   o          open a book: R, S, W, H, first position, threshold, cap, floor
+//   i          begin with an image of a book with these settings and without entries: its threshold may be one that no opening takes
 //   e          an entry: number, day kind
 //   t c        set the threshold; cap and floor
 //   r          report: region, market
@@ -11,6 +12,7 @@
 //   j          put a number into a place of the ring, as others might
 //   =          a heading to print; lines that begin with anything else are for the reader
 use book::record::Book;
+use book::record::Settings;
 use book::record::closed;
 use book_calls::opening::open;
 use book_calls::report::report;
@@ -18,6 +20,8 @@ use book_calls::setting::set_limits;
 use book_calls::setting::set_threshold;
 use codec::bits32;
 use entries::enter;
+use image::loading::load;
+use image::storing::store;
 use planning::Left;
 use planning::intervals_left;
 use stage::printing::amount;
@@ -29,13 +33,13 @@ use stage::printing::reported;
 use stage::printing::say;
 use stage::reading::byte;
 use stage::reading::bytes;
-use stage::reading::cents;
 use stage::reading::heading;
 use stage::reading::letter_at;
 use stage::reading::numbers;
 use stage::reading::settings;
 use stage::reading::signed_numbers;
 use stage::reading::size;
+use stage::reading::threshold;
 use stage::reading::within;
 ghost use Prim.Native.Nat.{_<_};
 
@@ -66,6 +70,25 @@ fn opened(ring: &mut [i32], text: &[u8], at: usize, parents_at: usize) -> Book {
     let answer = o.answer;
     answered(b"open", answer);
     o.book
+}
+
+// The image of a book as opened, but with another threshold.
+fn imaged(settings: Settings, ring: &mut [i32], image: &mut [u8]) {
+    let mut open_with = settings;
+    open_with.threshold = 10000;
+    let o = open(open_with, ring);
+    let mut book = o.book;
+    book.threshold = settings.threshold;
+    store(book, ring, image);
+}
+
+fn loaded(ring: &mut [i32], text: &[u8], at: usize, parents_at: usize) -> Book {
+    let mut image = [0u8; 148];
+    imaged(settings(text, at, parents_at), ring, &mut image);
+    let l = load(&image, ring);
+    let answer = l.answer;
+    answered(b"image", answer);
+    l.book
 }
 
 // An entry that is lent what the lines say, and a table as long as its prices.
@@ -100,7 +123,7 @@ fn entered(book: Book, ring: &mut [i32], text: &[u8], at: usize, lent: [usize; 8
     e.book
 }
 
-fn threshold(book: Book, cents: i64) -> Book {
+fn set(book: Book, cents: i64) -> Book {
     let c = set_threshold(book, cents);
     let answer = c.answer;
     answered(b"threshold", answer);
@@ -173,7 +196,7 @@ fn asked(book: Book, letter: u8, text: &[u8], at: usize) -> Book {
     let mut z = [0i32; 2];
     signed_numbers(text, at, &mut z);
     match letter {
-        b't' => threshold(book, cents(z[0])),
+        b't' => set(book, threshold(text, at, 0)),
         b'c' => limits(book, z[0], z[1]),
         b'r' => shown(book, text, at),
         b'v' => first_sum(book),
@@ -194,6 +217,7 @@ fn called(
     let ring = &mut places[..n];
     match letter {
         b'o' => opened(ring, text, at, lent[5]),
+        b'i' => loaded(ring, text, at, lent[5]),
         b'e' => entered(book, ring, text, at, lent),
         b'q' => questioned(book, ring, text, at),
         b'j' => put_place(book, ring, text, at),
