@@ -14,7 +14,8 @@ def refuse_book(book):
 
 
 def settings_good(book):
-    """What opening sets, and the "entries taken above 10,000,000"; a closed book has no region."""
+    """What opening sets, and the "entries taken above 10,000,000"; a closed book has no region. Any threshold in range
+    is good, since an image may bring it."""
     return (
         1 <= book.regions <= 8 and book.services <= 10 and 1 <= book.window <= 2016 and 1 <= book.halves <= 48
         and parents_good(book.regions, book.parents[:])

@@ -13,6 +13,9 @@ Intervals that a site's logger hands over as records (request 2026-01 of documen
 Money is in whole cents, the index in whole dollars. docs/REFUSALS.md has every refusal, host/c/guxhamole.h every
 function.
 
+A book is opened at, and set to, thresholds in whole hundreds of dollars, multiples of 10,000 cents (request 2026-06 of
+document 02). An image may hold another one: it loads, and that threshold stays until the next setting.
+
 Proved are each function's whole outcome and, over sequences of calls, that the answers are those of a ledger which
 keeps the whole history, where each call gets the book and ring that the call before left. A `Book` holds both and hands
 them to no one, so this holds by construction, over restarts (`store`, then `load`) too. This file itself is tested, not
@@ -70,6 +73,7 @@ MEANINGS = {
     41: "a record's kind, or a head's region total, that doesn't belong there",
     42: "a record of a region from R up or given before",
     43: "a price asked about is outside its market's entry range",
+    44: "a threshold that is no multiple of 10,000 cents",
 }
 
 # "15 to 17 give the first place in the lent slice"; beside any other refusal the place is 0 and says nothing.
@@ -321,14 +325,15 @@ class Book:
 
     @classmethod
     def open(cls, settings: Settings) -> "Book":
-        """A new book. Refusals: 20 18 19."""
+        """A new book. Refusals: 20 18 44 19."""
         record = _settings(settings)
         ring = _ring(record.regions, record.services, record.window)
         return cls(_accepted(_face().guxhamole_open(record, *_lent(ring))).book, ring)
 
     @classmethod
     def load(cls, image: bytes) -> "Book":
-        """The book of an image, with a ring of its own. Refusals: 24 25 26 27 16."""
+        """The book of an image, with a ring of its own, whether or not `open` would take its threshold. Refusals: 24 25
+        26 27 16."""
         lent = _lent(_numbers(image, c_uint8))
         number = _face().guxhamole_image_check(*lent)
         if number not in (0, 16):
@@ -348,7 +353,7 @@ class Book:
         return Entered(answer.count, list(table))
 
     def set_threshold(self, threshold: int) -> None:
-        """Acts from the next entry. Refusal: 18."""
+        """Acts from the next entry. Refusals: 18 44."""
         self._book = _accepted(_face().guxhamole_set_threshold(self._book, _fits(threshold, c_int64))).book
 
     def set_limits(self, cap: int, floor: int) -> None:

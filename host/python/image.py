@@ -1,8 +1,8 @@
-"""Document 01's image, from its words alone: the bytes that a ledger's book has, and what refuses bytes. The tests hold
-the library to it; it shares no code with guxhamole.py."""
+"""Document 01's image, from its words alone: the bytes that a ledger's book has, what refuses bytes, and the ledger
+that begins with an image. The tests hold the library to it; it shares no code with guxhamole.py."""
 
 from arithmetic import Refused, limits_good, price_good
-from ledger import MOST_ENTRIES, parents_good
+from ledger import MOST_ENTRIES, Ledger, Opening, parents_good
 
 HEAD = 148
 
@@ -73,3 +73,20 @@ def refuse_image(image):
     for place, energy in enumerate(energies):
         if not price_good(read(image, HEAD + 4 * place, 4, signed=True), energy):
             raise Refused(16, place)
+
+
+def settings_in(image):
+    """Where "the next entry's position" stands for the first position."""
+    limits = read(image, 36, 4, signed=True), read(image, 40, 4, signed=True)
+    shape = image[6], image[7], read(image, 8, 2), image[10]
+    return Opening(*shape, read(image, 24, 2), list(image[12:20]), read(image, 28, 8), *limits)
+
+
+def begun(image):
+    """Request 2026-06 of document 02: a ledger's list "may begin with such an image of a book without entries and with
+    no period marked, its settings standing for the opening's". Any threshold in range is one; 44 is of opening and
+    setting alone. """
+    refuse_image(image)
+    if read(image, 20, 4) != 0 or any(image[60:HEAD]):
+        raise ValueError("no list begins with an image of a book that has entries or a period marked")
+    return Ledger(settings_in(image))

@@ -1,6 +1,7 @@
 """Document 01's ledger machine P, from its words alone: "It keeps the settings of opening and, in order, the accepted
-entries and settings." It keeps no sum, count, position or period: each is worked out from the whole history whenever it
-is asked for. The tests hold the library to it; it shares no code with guxhamole.py."""
+entries and settings." An image's settings may stand for the opening's (request 2026-06 of document 02). It keeps no
+sum, count, position or period: each is worked out from the whole history whenever it is asked for. The tests hold the
+library to it; it shares no code with guxhamole.py."""
 
 from fractions import Fraction
 from typing import NamedTuple, Sequence
@@ -9,6 +10,20 @@ from arithmetic import Refused, held, limits_good, nearest, price_good
 
 NONE = 255
 MOST_ENTRIES = 10_000_000
+
+
+class Opening(NamedTuple):
+    """What a list of calls begins with; any record with these fields is one."""
+
+    regions: int
+    services: int
+    window: int
+    halves: int
+    first: int
+    parents: Sequence[int]
+    threshold: int
+    cap: int
+    floor: int
 
 
 class Entry(NamedTuple):
@@ -37,7 +52,8 @@ def parents_good(regions, parents):
 
 
 def refuse_opening(opening):
-    """ "Open: 20 a setting; 11 ring length; 18 threshold; 19 cap or floor." The ring has its length. """
+    """ "Open: 20 a setting; 11 ring length; 18 threshold; 19 cap or floor", and 44 "directly after 18". The ring has
+    its length. """
     shape_good = 1 <= opening.regions <= 8 and 0 <= opening.services <= 10 and 1 <= opening.window <= 2016
     day_good = 1 <= opening.halves <= 48 and 0 <= opening.first < 6 * opening.halves
     if not shape_good or not day_good or not parents_good(opening.regions, opening.parents):
@@ -47,9 +63,11 @@ def refuse_opening(opening):
 
 
 def refuse_threshold(threshold):
-    """ "threshold 1..100,000,000,000" """
+    """ "threshold 1..100,000,000,000"; "44: a threshold within range but no multiple of 10,000; directly after 18" """
     if not 1 <= threshold <= 100_000_000_000:
         raise Refused(18)
+    if threshold % 10_000 != 0:
+        raise Refused(44)
 
 
 def refuse_limits(cap, floor):
@@ -58,15 +76,20 @@ def refuse_limits(cap, floor):
 
 
 class Ledger:
-    """The machine. `marked` entries are taken first in which every region is marked, so that no price joins a window:
-    of those it keeps how many they are, which brings the bound of 10,000,000 entries within reach of a test."""
+    """The machine, from settings that an opening accepted (`open`) or that stand for an opening's (image.py's `begun`).
+    `marked` entries are taken first in which every region is marked, so that no price joins a window: of those it keeps
+    how many they are, which brings the bound of 10,000,000 entries within reach of a test."""
 
     def __init__(self, opening, marked=0):
-        refuse_opening(opening)
         self.opening = opening
         self.marked = marked
         self.entries = []
         self.settings = [Setting(0, opening.threshold, opening.cap, opening.floor)]
+
+    @classmethod
+    def open(cls, opening):
+        refuse_opening(opening)
+        return cls(opening)
 
     @property
     def markets(self):

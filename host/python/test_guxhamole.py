@@ -10,14 +10,21 @@ from unittest import mock
 
 import guxhamole
 from guxhamole import Book, Refusal, Settings, amount_text, check, index, replay, schedule
+from starts import by_image
 
 TOP = Path(__file__).resolve().parents[2]
 
 
-def small(regions=1, services=0, window=1, halves=1, parents=(), threshold=95_000):
-    """ "first position 0, threshold 95,000, limits ±60,000" """
+def small(regions=1, services=0, window=1, halves=1, parents=(), threshold=90_000):
+    """ "first position 0 .. limits ±60,000", and a threshold that an opening takes. """
     parents = (*parents, *[255] * 8)[:8]
     return Settings(regions, services, window, halves, 0, parents, threshold, 60_000, -60_000)
+
+
+def worked(**shape):
+    """A worked book of document 01, at "threshold 95,000": it begins with an image, as request 2026-06 says."""
+    book, _ = by_image(small(**shape, threshold=95_000))
+    return book
 
 
 def entry(book, prices, /, **other):
@@ -39,7 +46,7 @@ class Cases(unittest.TestCase):
 
     def guide(self):
         """ "R 3, parents 255, 0, 1, S 0, W 1, H 1 .. Entry 0: 100,000, 90,000, 85,000, published as entered." """
-        book = Book.open(small(regions=3, parents=(255, 0, 1)))
+        book = worked(regions=3, parents=(255, 0, 1))
         self.assertEqual(enter(book, [100_000, 90_000, 85_000]), (0, [100_000, 90_000, 85_000]))
         return book
 
@@ -54,7 +61,7 @@ class Cases(unittest.TestCase):
 
     def periods(self, fifth):
         """Whether energy is administered at entries 0 to 6: 100,000, then 50,000, entry 5 as given."""
-        book = Book.open(small())
+        book = worked()
         periods = [book.report(0, 0).administered]
         for price in (100_000, 50_000, 50_000, 50_000, 50_000, fifth):
             enter(book, [price])
@@ -68,7 +75,7 @@ class Cases(unittest.TestCase):
 
     def test_marked_interval_is_left_out(self):
         """ "W 2, energy 100, 200, marked, 400: sum 600, marked left it 300." """
-        book = Book.open(small(window=2))
+        book = worked(window=2)
         enter(book, [100])
         enter(book, [200])
         enter(book, [2**31 - 1], marks=[1])
@@ -78,7 +85,7 @@ class Cases(unittest.TestCase):
 
     def test_day_sheet(self):
         """ "R 1, S 1, W 3, H 1 .. after (100,000, 250) and (−5,000, 0)"; samples/worked.image is this book. """
-        book = Book.open(small(services=1, window=3))
+        book = worked(services=1, window=3)
         enter(book, [100_000, 250])
         enter(book, [-5_000, 0])
         reports = [book.report(0, market) for market in (0, 1)]
@@ -127,6 +134,7 @@ class Refusals(unittest.TestCase):
         self.refused(20, None, Book.open, small(regions=255, services=255, window=65_535))
         self.refused(20, None, Book.open, small(regions=0))
         self.refused(18, None, Book.open, small(threshold=0))
+        self.refused(44, None, Book.open, small(threshold=95_000))
         self.refused(19, None, Book.open, Settings(floor=0))
 
     def test_entry(self):
@@ -161,8 +169,9 @@ class Refusals(unittest.TestCase):
     def test_settings_and_report(self):
         book = Book.open(small())
         self.refused(18, None, book.set_threshold, 100_000_000_001)
+        self.refused(44, None, book.set_threshold, 99_999_999_999)
         self.refused(19, None, book.set_limits, 0, -1)
-        self.assertEqual((book.threshold, book.cap, book.floor), (95_000, 60_000, -60_000))
+        self.assertEqual((book.threshold, book.cap, book.floor), (90_000, 60_000, -60_000))
         book.set_threshold(100_000_000_000)
         book.set_limits(10_000_000, -10_000_000)
         self.assertEqual((book.threshold, book.cap, book.floor), (100_000_000_000, 10_000_000, -10_000_000))
@@ -211,7 +220,7 @@ class Refusals(unittest.TestCase):
         self.assertEqual(bytes(room), bytes([9] * 151))
 
     def test_meanings(self):
-        self.assertEqual(list(guxhamole.MEANINGS), [*range(10, 28), *range(30, 34), *range(40, 44)])
+        self.assertEqual(list(guxhamole.MEANINGS), [*range(10, 28), *range(30, 34), *range(40, 45)])
         refusal = pickle.loads(pickle.dumps(Refusal(16, 3)))
         self.assertEqual(str(refusal), "refused 16 at 3: a price out of its market's range")
 

@@ -5,12 +5,14 @@ import copy
 import ctypes
 import unittest
 from ctypes import c_int32
+from itertools import product
 
 import guxhamole
 from arithmetic import Refused
 from book import counted, refuse_book, refuse_length, refuse_prices
 from guxhamole import Book, Refusal, Settings
-from ledger import Entry, Ledger
+from ledger import Entry, Ledger, Opening
+from starts import by_image, by_opening
 
 FILL = 9_000_000  # a price that would be seen in any sum
 MARGIN = 3  # places before and behind the ring that are not lent
@@ -78,7 +80,7 @@ def ledger_of(book, ring):
     own first price a region is marked."""
     regions, markets, length = range(book.regions), range(book.services + 1), max(book.counts)
     shape = (book.regions, book.services, book.window, book.halves)
-    ledger = Ledger(Settings(*shape, 0, list(book.parents), book.threshold, book.cap, book.floor))
+    ledger = Ledger(Opening(*shape, 0, list(book.parents), book.threshold, book.cap, book.floor))
     rows = [[None] * (length - book.counts[region]) + counted(book, ring, region, market)
             for region in regions for market in markets]
     for number in range(length):
@@ -96,16 +98,21 @@ def enter(book, ledger, prices, marks):
     ledger.entries.append(Entry(*lent))
 
 
-def played(shape, window, prices, threshold):
-    """Book and ledger after these prices of a market; others have prices of their own."""
+def played(shape, window, prices, threshold, start=by_image):
+    """Book and ledger after these prices of a market; others have prices of their own. An image brings any threshold,
+    so that a sum may be a cent from it."""
     regions, services, region, market = shape
-    settings = Settings(regions, services, window, 1, 0, [255] * 8, threshold)
-    book, ledger = Book.open(settings), Ledger(settings)
+    book, ledger = start(Settings(regions, services, window, 1, 0, [255] * 8, threshold))
     for number, price in enumerate(prices):
         row = [1_000 * place + number for place in range(regions * (services + 1))]
         row[region * (services + 1) + market] = 9_999 if price is None else price
         enter(book, ledger, row, [int(price is None and place == region) for place in range(regions)])
     return book, ledger
+
+
+def set_both(book, ledger, threshold):
+    for machine in (book, ledger):
+        machine.set_threshold(threshold)
 
 
 def entered(book, region, market, price):
@@ -136,12 +143,15 @@ class Cases(unittest.TestCase):
         self.assertEqual(of_library, due_left(book._book, book._ring, *question))
 
     def test_cases(self):
-        """Each as energy and, where no price is below 0, as a service, in the first and in later windows of a ring."""
+        """Each as energy and, where no price is below 0, as a service, in the first and in later windows of a ring;
+        from an image, and from an opening where that takes the threshold."""
         for name, (window, prices, price, threshold, answer, sums) in CASES.items():
             negative = min((price, *(each or 0 for each in prices))) < 0
-            for shape in [shape for shape in SHAPES if shape[3] == 0 or not negative]:
-                with self.subTest(name, shape=shape):
-                    book, ledger = played(shape, window, prices, threshold)
+            shapes = [shape for shape in SHAPES if shape[3] == 0 or not negative]
+            starts = (by_image, by_opening) if threshold % 10_000 == 0 else (by_image,)
+            for shape, start in product(shapes, starts):
+                with self.subTest(name, shape=shape, start=start.__name__):
+                    book, ledger = played(shape, window, prices, threshold, start)
                     question = (*shape[2:], price)
                     self.on_all(book, ledger, question, answer)
                     self.assertEqual(entered(book, *question), list(sums))
@@ -157,15 +167,16 @@ class Cases(unittest.TestCase):
 
     def test_the_real_window(self):
         """N: 2,016 prices of 5,000, and 140,145,000 after 87 more of 1,500,000."""
-        book, ledger = played(SHAPES[0], 2016, [5_000] * 2016, 139_810_000)
+        book, ledger = played(SHAPES[0], 2016, [5_000] * 2016, 139_810_000, by_opening)
         question = (0, 0, 1_500_000)
         self.on_all(book, ledger, question, 87)
         self.assertEqual(entered(book, *question)[85:87], [138_650_000, 140_145_000])
         self.assertEqual(book.intervals_left(0, 0, 5_000), 0)
-        for threshold, answer in ((140_144_999, 87), (140_145_000, 88)):
-            book.set_threshold(threshold)
-            ledger.set_threshold(threshold)
+        for threshold, answer in ((140_140_000, 87), (140_150_000, 88)):
+            set_both(book, ledger, threshold)
             self.on_all(book, ledger, question, answer)
+        for threshold, answer in ((140_144_999, 87), (140_145_000, 88)):
+            self.on_all(*played(SHAPES[0], 2016, [5_000] * 2016, threshold), question, answer)
 
     def test_sums_beyond_32_bits(self):
         """The highest price, on windows that hold none and on full ones of the lowest; and the largest sum of all."""
@@ -180,11 +191,22 @@ class Cases(unittest.TestCase):
 
     def test_present_threshold(self):
         """ "the present threshold" is the one set last, whatever was in force at an entry. """
-        book, ledger = played(SHAPES[0], 5, (4_000,), 10_000)
+        book, ledger = played(SHAPES[0], 5, (40_000,), 100_000, by_opening)
+        for threshold, answer in ((50_000, 1), (60_000, 2), (110_000, 4), (120_000, 0), (100_000, 4), (90_000, 3)):
+            set_both(book, ledger, threshold)
+            self.on_all(book, ledger, (0, 0, 20_000), answer)
+
+    def test_threshold_of_an_image(self):
+        """It is the present one, to the cent, over restarts and after a refused setting, until one is set."""
         for threshold, answer in ((5_999, 1), (6_000, 2), (11_999, 4), (12_000, 0), (10_000, 4), (9_999, 3)):
-            book.set_threshold(threshold)
-            ledger.set_threshold(threshold)
+            book, ledger = played(SHAPES[0], 5, (4_000,), threshold)
             self.on_all(book, ledger, (0, 0, 2_000), answer)
+            book = Book.load(book.store())
+            for machine in (book, ledger):
+                self.assertEqual(number_of(machine.set_threshold, 95_000), (44, 0))
+            self.on_all(book, ledger, (0, 0, 2_000), answer)
+            set_both(book, ledger, 10_000)
+            self.on_all(book, ledger, (0, 0, 2_000), 4)
 
     def test_asked_before_an_entry(self):
         """A question, however often, is no entry; and each entry leaves one interval less."""
@@ -201,7 +223,7 @@ class Refusals(unittest.TestCase):
     """On a book of two regions and two markets, W 3: region 0 has two prices counted, region 1 three, turned round."""
 
     def setUp(self):
-        self.book, ledger = played((2, 1, 0, 0), 3, (None, 5, None, 7), 9_000)
+        self.book, _ = played((2, 1, 0, 0), 3, (None, 5, None, 7), 8_000)
         self.raw, self.ring = self.book._book, list(self.book._ring)
         self.assertEqual((self.raw.counts[:2], self.raw.nexts[:2]), ([2, 3], [2, 1]))
         self.free = {2, 5}  # the places of region 0's windows that hold no counted price

@@ -5,8 +5,8 @@ import random
 import unittest
 from fractions import Fraction
 
-from guxhamole import Book, Settings
-from ledger import Ledger
+from guxhamole import Settings
+from starts import by_image
 
 SEED = 4
 PRICE = 10_000_000
@@ -35,10 +35,10 @@ CASES = {
 
 
 def row_of(regions, cap, floor, administered):
-    """A book and a ledger of regions in a row, after an entry from which on some energy is administered."""
+    """A book and a ledger of regions in a row at the guide's threshold, which an image brings, after an entry from
+    which on some energy is administered."""
     parents = [255, *range(regions - 1), *[255] * 8][:8]
-    settings = Settings(regions, 0, 1, 1, 0, parents, 95_000, cap, floor)
-    book, ledger = Book.open(settings), Ledger(settings)
+    book, ledger = by_image(Settings(regions, 0, 1, 1, 0, parents, 95_000, cap, floor))
     first = [100_000 * (region in administered) for region in range(regions)]
     for machine in (book, ledger):
         entered(machine, 0, first, 0, [10_000] * (regions - 1))

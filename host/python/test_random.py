@@ -11,13 +11,20 @@ from arithmetic import Refused, nearest
 from guxhamole import Book, Refusal, Settings
 from image import image_of, refuse_image
 from ledger import NONE, Entry, Ledger
+from starts import by_image, by_opening
 
 SEED = 12
 CALLS = 20_000
 WINDOWS = (1, 2, 3, 4)
 # Every refusal that a `Book` can meet: it has the ring's and the buffers' lengths right (23, 33), is never closed or
 # damaged (10), and its ring is its own (22).
-MET = (11, 12, 13, 14, 15, 16, 17, 18, 19, 20, 21, 24, 25, 26, 27, 30, 31, 32)
+MET = (11, 12, 13, 14, 15, 16, 17, 18, 19, 20, 21, 24, 25, 26, 27, 30, 31, 32, 44)
+# What must be met besides: periods and limits of other regions, and thresholds that an image brought.
+SHOWN = ("accepted", "marked", "bound", "another cent", "begun", "ended", "begun by an image",
+         "restarted at no multiple", "not above, the hundreds below are", "above, the next hundreds are not",
+         "exactly at no multiple")
+# Thresholds at the ends of the range and beyond; out of range a multiple of 10,000 is refused as any other number.
+ODD_THRESHOLDS = (-2**63, -10_000, -1, 0, 1, 99_999_999_999, 100_000_000_000, 100_000_000_001, 100_000_010_000)
 # Caps and floors with the factors of a route, the source's link first, at whose end a ten-thousandth of a cent on the
 # way, or another way to round a half, makes another cent.
 CAPS = {1: (10_001, 20_000), 3_751: (15_001,), 4: (13_334, 20_000), 8: (16_308, 14_016), 37: (10_137,),
@@ -51,7 +58,13 @@ def random_settings(dice):
 
 
 def random_threshold(dice):
+    """One that an opening and a setting take."""
     return 10_000 * dice.randint(1, 25)
+
+
+def near_hundreds(dice):
+    """No multiple of 10,000, but around one; an image may hold it."""
+    return random_threshold(dice) - dice.choice((1, 9_999, 100, 1_000, 5_000, dice.randint(1, 9_999)))
 
 
 def random_limits(dice):
@@ -65,25 +78,31 @@ def random_price(dice, energy):
 
 
 def bad_settings(dice):
-    """Settings of which one is outside its limits, or at them."""
+    """Settings of which one is outside its limits, or at them; in some the threshold is no multiple of 10,000 or out of
+    range beside."""
     good = vars(random_settings(dice))
+    thresholds = ("threshold", (*ODD_THRESHOLDS, near_hundreds(dice), near_hundreds(dice)))
     name, values = dice.choice((
         ("regions", (0, 9, 255)), ("services", (11, 255)), ("window", (0, 2017, 65_535)), ("halves", (0, 49)),
         ("first", (6 * good["halves"], 65_535)), ("parents", ([0] + [NONE] * 7, [NONE] * 7 + [0], [NONE] + [1] * 7)),
-        ("threshold", (0, -1, 100_000_000_000, 100_000_000_001)), ("cap", (0, 10_000_000, 10_000_001)),
-        ("floor", (0, -10_000_000, -10_000_001)),
+        thresholds, thresholds, ("cap", (0, 10_000_000, 10_000_001)), ("floor", (0, -10_000_000, -10_000_001)),
     ))
+    if dice.random() < 0.5:
+        good["threshold"] = dice.choice(thresholds[1])
     return Settings(**{**good, name: dice.choice(values)})
 
 
 def random_prices(dice, settings):
-    """Each of its own; in every other entry energy is high everywhere, low everywhere, or high in region 0 alone."""
+    """Each of its own; in every other entry energy is high everywhere, low everywhere, or high in region 0 alone; in
+    some one price is the threshold, or a cent more, so that a sum is at one that is no multiple of 10,000 too."""
     markets = settings.services + 1
     prices = [random_price(dice, place % markets == 0) for place in range(settings.regions * markets)]
     if dice.random() < 0.5:
         high, low = dice.choice((120_000, 250_010)), dice.choice((-1, -90_000, -200_000))
         energies = dice.choice(([high] * settings.regions, [low] * settings.regions, [high] + [0] * settings.regions))
         prices[::markets] = energies[:settings.regions]
+    if dice.random() < 0.2:
+        prices[dice.randrange(len(prices))] = min(10_000_000, settings.threshold + dice.randrange(2))
     return prices
 
 
@@ -195,11 +214,20 @@ class Calls:
         self.met[of_book[1] if of_book[0] == "refused" else "accepted"] += 1
 
     def open(self):
-        """A new list's book and ledger; one in eight goes on from a book that has taken nearly all entries."""
-        self.settings = random_settings(self.dice)
-        marked = 10_000_000 - self.dice.randint(0, 9) if self.dice.random() < 0.125 else 0
-        self.ledger = Ledger(self.settings, marked)
-        self.book = Book.load(image_of(self.ledger)) if marked else Book.open(self.settings)
+        """A new list's book and ledger: by an opening, or by an image of a book without entries, in which the threshold
+        is often no multiple of 10,000; one in eight goes on from a book that has taken nearly all entries."""
+        self.settings, way = random_settings(self.dice), self.dice.random()
+        if way < 0.5:
+            self.book, self.ledger = by_opening(self.settings)
+            return
+        if self.dice.random() < 0.5:
+            self.settings = replace(self.settings, threshold=near_hundreds(self.dice))
+        if way < 0.875:
+            self.book, self.ledger = by_image(self.settings)
+            self.met["begun by an image"] += 1
+        else:
+            self.ledger = Ledger(self.settings, 10_000_000 - self.dice.randint(0, 9))
+            self.book = Book.load(image_of(self.ledger))
 
     def on_both(self, name, *arguments):
         """A call of the book and of the ledger; refused, it leaves book and ring as they were."""
@@ -212,7 +240,8 @@ class Calls:
 
     def enter(self):
         number, now = self.ledger.marked + self.ledger.taken, self.ledger.settings[-1]
-        entry = random_entry(self.dice, replace(self.settings, cap=now.cap, floor=now.floor), number)
+        settings = replace(self.settings, threshold=now.threshold, cap=now.cap, floor=now.floor)
+        entry = random_entry(self.dice, settings, number)
         while self.dice.random() < 0.3:
             damage(self.dice, entry)
         answer = self.on_both("enter", *entry)
@@ -230,6 +259,7 @@ class Calls:
             self.met["begun"] += after and not before
             self.met["ended"] += before and not after
         self.met["another cent"] += self.in_cents(entry) != table
+        self.look_at_sums(last)
 
     def in_cents(self, entry):
         """What the accepted entry would have published, if limits were passed on in cents."""
@@ -237,9 +267,22 @@ class Calls:
         cents.entries, cents.settings = self.ledger.entries[:-1], self.ledger.settings
         return cents.published(entry, cents.effective(entry))
 
+    def look_at_sums(self, t):
+        """Counts sums after t at a threshold that is no multiple of 10,000: those that one rounded to a multiple would
+        take otherwise, and those exactly at it."""
+        threshold = self.ledger.setting(t).threshold
+        rest = threshold % 10_000
+        places = range(self.settings.regions * self.ledger.markets) if rest else ()
+        for place in places:
+            total = sum(self.ledger.counted(*divmod(place, self.ledger.markets), t))
+            self.met["not above, the hundreds below are"] += threshold - rest < total <= threshold
+            self.met["above, the next hundreds are not"] += threshold < total <= threshold - rest + 10_000
+            self.met["exactly at no multiple"] += total == threshold
+
     def set_threshold(self):
-        bounds = (0, 1, 100_000_000_000, 100_000_000_001, -2**63)
-        self.on_both("set_threshold", self.dice.choice((*[random_threshold(self.dice)] * 7, *bounds)))
+        """One in two is taken; a multiple of 10,000 beyond the range is not."""
+        thresholds = [random_threshold(self.dice)] * 4 + [near_hundreds(self.dice)] * 2
+        self.on_both("set_threshold", self.dice.choice((*thresholds, self.dice.choice(ODD_THRESHOLDS))))
 
     def set_limits(self):
         bounds = ((0, -1), (1, 0), (10_000_000, -10_000_000), (10_000_001, -1), (1, -10_000_001))
@@ -251,6 +294,7 @@ class Calls:
 
     def restart(self):
         """ "P accepts both calls and does nothing." The image is that of the ledger's book. """
+        self.met["restarted at no multiple"] += self.book.threshold % 10_000 != 0
         self.restarts.add((self.book.window, self.book._book.counts[0], self.book._book.nexts[0]))
         self.restarts.add((self.book.halves, "position", self.book.position))
         image = self.book.store()
@@ -261,7 +305,7 @@ class Calls:
     def bad_open(self):
         settings = bad_settings(self.dice)
         of_book = outcome(lambda: Book.open(settings).store())
-        self.compare(of_book, outcome(lambda: image_of(Ledger(settings))), "open", settings)
+        self.compare(of_book, outcome(lambda: image_of(Ledger.open(settings))), "open", settings)
 
     def bad_image(self):
         image = damaged_image(self.dice, self.book.store())
@@ -286,7 +330,7 @@ class Calls:
         self.test.assertEqual((self.book.threshold, self.book.cap, self.book.floor), setting[1:])
 
     def play(self):
-        """A list: an opening, calls, and a report of each market."""
+        """A list: an opening or an image, calls, and a report of each market."""
         self.open()
         kinds = [self.enter] * 14 + [self.restart] * 3 + [self.report] * 2
         kinds += [self.set_threshold, self.set_limits, self.bad_open, self.bad_image, self.bad_image, self.arithmetic]
@@ -300,7 +344,7 @@ class RandomCalls(unittest.TestCase):
         calls = Calls(self)
         while calls.calls < CALLS:
             calls.play()
-        for what in ("accepted", "marked", "bound", "another cent", "begun", "ended", *MET):
+        for what in (*SHOWN, *MET):
             self.assertGreaterEqual(calls.met[what], 10, what)
         self.assertEqual({what for what in calls.met if isinstance(what, int)}, set(MET))
         phases = {(window, count, count) for window in WINDOWS for count in range(window)}

@@ -11,7 +11,8 @@ from arithmetic import Refused
 from book import LARGEST_SUM
 from guxhamole import Book, Refusal, Settings
 from interval import Interval
-from ledger import NONE, Ledger
+from ledger import NONE
+from starts import by_opening
 from test_intervals import due_read, due_write, library_read, library_write, number_of, right_lengths
 from test_random import outcome, random_entry
 
@@ -22,7 +23,7 @@ TELLING = (0, 1, 2, 5, 6, 11, 12, 13, 16, 17, 18, 20, 255)
 # A book's fields at their ends and beyond.
 ENDS = {
     "regions": (0, 1, 8, 9), "services": (0, 10, 11), "window": (0, 1, 2, 3, 2016, 2017), "halves": (0, 1, 48, 49),
-    "parents": (0, 1, 7, 254, 255), "threshold": (0, 1, 100_000_000_000, 100_000_000_001),
+    "parents": (0, 1, 7, 254, 255), "threshold": (0, 1, 95_000, 100_000_000_000, 100_000_000_001),
     "cap": (0, 1, 10_000_000, 10_000_001), "floor": (0, -1, -10_000_000, -10_000_001),
     "entries": (0, 1, 2, 10_000_000, 10_000_001), "position": (0, 5, 6, 288), "counts": (0, 1, 2, 3, 4),
     "nexts": (0, 1, 2, 3), "sums": (0, 1, LARGEST_SUM, LARGEST_SUM + 1, -LARGEST_SUM, -LARGEST_SUM - 1),
@@ -158,7 +159,7 @@ class Calls:
 
     def open(self):
         self.settings = random_settings(self.dice)
-        self.book = Book.open(self.settings)
+        self.book, self.ledger = by_opening(self.settings)
         self.feed = [random_interval(self.dice, self.settings, number) for number in range(self.dice.randint(1, 3))]
         self.pieces = []
         for each in self.feed:
@@ -169,12 +170,11 @@ class Calls:
 
     def enter_all(self):
         """What was read, in whatever order its regions stood, is entered as what was written."""
-        ledger = Ledger(self.settings)
         schedule = [self.dice.randint(-90_000, 90_000) for _ in range(2 * len(self.feed[0].prices))]
         for found, given in zip(self.book.intervals(b"".join(self.pieces)), self.feed):
             self.test.assertEqual(found, given)
             answer = outcome(self.book.enter, *found, schedule)
-            self.test.assertEqual(answer, outcome(ledger.enter, *given, schedule), given)
+            self.test.assertEqual(answer, outcome(self.ledger.enter, *given, schedule), given)
             self.met["entered"] += answer[0] == "accepted"
 
     def lent_book(self):

@@ -10,8 +10,9 @@ from book import LARGEST_SUM
 from guxhamole import Book
 from image import image_of
 from ledger import Entry, Ledger
+from starts import by_image, by_opening
 from test_left import due_left, entered, first_above, library_left
-from test_random import outcome, random_entry, random_price, random_settings, random_threshold
+from test_random import near_hundreds, outcome, random_entry, random_price, random_settings, random_threshold
 from test_random_intervals import damaged_book
 
 SEED = 7
@@ -25,7 +26,7 @@ MET = {
     "damaged 0": 200, "damaged 10": 100, "damaged 11": 100, "damaged 21": 40, "damaged 22": 200, "damaged 43": 50,
     "reached before": 200, "not above after W": 200, "above now, and 0": 100, "turned round": 500, "not full": 500,
     "last marked": 200, "restarted": 200, "no more entries": 50, "entered": 1_000, "another order": 20,
-    "long window": 200,
+    "long window": 200, "begun by an image": 50, "brought": 200, "set": 100, "set refused": 200, "no multiple": 1_000,
 }
 
 
@@ -42,7 +43,7 @@ def near_price(dice, prices, window, threshold):
 
 
 def near_threshold(dice, prices, window, price):
-    """The sum after some number of this price, or a cent beside it, where a threshold may be that."""
+    """The sum after some number of this price, or a cent beside it, where a book's threshold may be that."""
     return max(1, dice.choice(sums_after(prices, window, price)) + dice.choice((-1, 0, 0, 0, 1)))
 
 
@@ -115,12 +116,19 @@ class Questions:
         self.questions = 0
 
     def open(self):
-        """A new list's book and ledger; one in ten goes on from a book that has taken nearly all entries."""
-        window = self.dice.choice(LONG if self.dice.random() < 0.05 else WINDOWS)
+        """A new list's book and ledger, by an opening or by an image of a book without entries; one in ten goes on from
+        a book that has taken nearly all entries."""
+        window, way = self.dice.choice(LONG if self.dice.random() < 0.05 else WINDOWS), self.dice.random()
         self.settings = replace(random_settings(self.dice), window=window)
-        marked = 10_000_000 - self.dice.randint(0, 2 * window) if self.dice.random() < 0.1 else 0
-        self.ledger = Ledger(self.settings, marked)
-        self.book = Book.load(image_of(self.ledger)) if marked else Book.open(self.settings)
+        if way < 0.5:
+            self.book, self.ledger = by_opening(self.settings)
+        elif way < 0.9:
+            self.settings = replace(self.settings, threshold=near_hundreds(self.dice))
+            self.book, self.ledger = by_image(self.settings)
+            self.met["begun by an image"] += 1
+        else:
+            self.ledger = Ledger(self.settings, 10_000_000 - self.dice.randint(0, 2 * window))
+            self.book = Book.load(image_of(self.ledger))
 
     def enter(self):
         """On both, or refused by both; what an entry publishes is test_random.py's to compare."""
@@ -133,8 +141,19 @@ class Questions:
             self.ledger.entries.append(entry)
 
     def set_threshold(self, threshold):
-        self.book.set_threshold(threshold)
-        self.ledger.set_threshold(threshold)
+        """On both, or refused by both; then the one before is asked about."""
+        answer = outcome(self.book.set_threshold, threshold)
+        self.test.assertEqual(answer, outcome(self.ledger.set_threshold, threshold))
+        self.met["set" if answer[0] == "accepted" else "set refused"] += 1
+
+    def bring_threshold(self, threshold):
+        """By an image with the book's entries and this threshold, whatever it is. No list of the ledger's begins with
+        it, so the ledger is told."""
+        image = self.book.store()
+        self.book = Book.load(image[:28] + threshold.to_bytes(8, "little") + image[36:])
+        now = self.ledger.settings[-1]
+        self.ledger.settings.append(now._replace(entries=self.ledger.taken, threshold=threshold))
+        self.met["brought"] += 1
 
     def restart(self):
         """The ledger does not see it."""
@@ -151,7 +170,8 @@ class Questions:
         if way < 0.6:
             price = near_price(dice, prices, window, self.book.threshold)
         elif way < 0.85:
-            self.set_threshold(near_threshold(dice, prices, window, price))
+            change = dice.choice((self.set_threshold, self.bring_threshold))
+            change(near_threshold(dice, prices, window, price))
         elif way < 0.9:
             price = dice.choice((-10_000_001, -10_000_000, -1, 0, 10_000_000, 10_000_001, -2**31, 2**31 - 1))
         if dice.random() < 0.04:
@@ -183,6 +203,7 @@ class Questions:
         self.met["not full"] += len(prices) < window
         self.met["long window"] += window in LONG
         self.met["last marked"] += self.ledger.taken > 0 and self.ledger.entries[-1].marks[region] == 1
+        self.met["no multiple"] += threshold % 10_000 != 0
         self.met["no more entries"] += self.book.entries == 10_000_000
         self.met["reached before"] += threshold in sums[:answer or window]
         self.met["not above after W"] += answer > 0 and sums[-1] <= threshold
@@ -205,7 +226,7 @@ class Questions:
             self.met["another order"] += answer[1] != self.book.intervals_left(*question)
 
     def play(self):
-        """A list: an opening, and a question after it and after each call."""
+        """A list: an opening or an image, and a question after it and after each call."""
         self.open()
         self.ask()
         for _ in range(self.dice.randint(5, 10 + 2 * self.settings.window)):

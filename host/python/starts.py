@@ -1,0 +1,20 @@
+"""The two starts of a list of calls, each for the library's book and for the ledger: an opening, and an image of a book
+without entries and with no period marked, which may hold any threshold (request 2026-06 of document 02). For tests."""
+
+from guxhamole import Book
+from image import begun, image_of
+from ledger import Ledger
+
+
+def blank_image(settings):
+    """The image of a book with these settings, without entries and with no period marked."""
+    return image_of(Ledger(settings))
+
+
+def by_opening(settings):
+    return Book.open(settings), Ledger.open(settings)
+
+
+def by_image(settings):
+    image = blank_image(settings)
+    return Book.load(image), begun(image)
