@@ -11,6 +11,11 @@ def blank_image(settings):
     return image_of(Ledger(settings))
 
 
+def with_threshold(image, threshold):
+    """An image but for bytes 28 to 35."""
+    return image[:28] + threshold.to_bytes(8, "little") + image[36:]
+
+
 def by_opening(settings):
     return Book.open(settings), Ledger.open(settings)
 

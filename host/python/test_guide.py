@@ -3,10 +3,12 @@ output, crates/guide_books/stdout. The text's own comments have the words of doc
 
 import re
 import unittest
+from ctypes import c_uint8
 from pathlib import Path
 
 import guxhamole
 from guxhamole import Book, Refusal, Settings, amount_text
+from starts import blank_image
 
 TOP = Path(__file__).resolve().parents[2]
 
@@ -36,13 +38,24 @@ class Stage:
         """A ring of so many places, as the text lends it; a `Book` by itself lends none but the right one."""
         return guxhamole._ring(1, 0, self.lent["a"][0])
 
-    def open(self, settings):
+    def settings(self, given):
         parents = (self.lent["w"] + [255] * 8)[:8]
-        record = guxhamole._settings(Settings(*settings[:5], parents, *settings[5:]))
+        return Settings(*given[:5], parents, *given[5:])
+
+    def begin(self, name, call, *lent):
+        """The book that an opening or a load hands back, with the ring that it was lent."""
         ring = self.ring()
-        answer = guxhamole._face().guxhamole_open(record, *guxhamole._lent(ring))
+        answer = call(*lent, *guxhamole._lent(ring))
         self.book = Book(answer.book, ring)
-        self.called("open", guxhamole._accepted, answer)
+        self.called(name, guxhamole._accepted, answer)
+
+    def open(self, given):
+        self.begin("open", guxhamole._face().guxhamole_open, guxhamole._settings(self.settings(given)))
+
+    def image(self, given):
+        """The image of a book with these settings and without entries, which may hold any threshold."""
+        image = guxhamole._numbers(blank_image(self.settings(given)), c_uint8)
+        self.begin("image", guxhamole._face().guxhamole_load, *guxhamole._lent(image))
 
     def enter(self, entry):
         own = self.book._ring
@@ -81,7 +94,7 @@ class Stage:
 
     def line(self, line):
         calls = {
-            "o": self.open, "e": self.enter, "r": self.report, "b": self.break_ring,
+            "o": self.open, "i": self.image, "e": self.enter, "r": self.report, "b": self.break_ring,
             "q": self.question, "j": self.jot,
             "t": lambda given: self.called("threshold", self.book.set_threshold, *given),
             "c": lambda given: self.called("limits", self.book.set_limits, *given),

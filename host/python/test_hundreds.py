@@ -4,13 +4,14 @@ that an image brings, which stay until the next setting; and the ledger that beg
 import unittest
 from ctypes import c_int32
 from dataclasses import replace
+from itertools import product
 
 import guxhamole
 from arithmetic import Refused
 from guxhamole import Book, Refusal, Settings, check
 from image import begun, image_of, settings_in
 from ledger import Ledger
-from starts import blank_image, by_image, by_opening
+from starts import blank_image, by_image, by_opening, with_threshold
 
 FILL = 7
 HIGHEST = 100_000_000_000
@@ -50,10 +51,6 @@ def library_open(settings, places):
 def enter(machine, number, price):
     """The count and the table of an entry in a book of one region and one market."""
     return machine.enter(number, 0, [price], [0], [0], [10_000], [0, 0])
-
-
-def with_threshold(image, threshold):
-    return image[:28] + threshold.to_bytes(8, "little") + image[36:]
 
 
 class Openings(unittest.TestCase):
@@ -113,7 +110,7 @@ class Openings(unittest.TestCase):
         self.assertEqual(str(caught.exception), "refused 44: a threshold that is no multiple of 10,000 cents")
 
 
-class SettingsOfThresholds(unittest.TestCase):
+class Setting(unittest.TestCase):
     def set(self, number, book, threshold):
         """By the raw function: the record is handed back with this threshold, or, refused, as it was."""
         before = guxhamole._Book.from_buffer_copy(book)
@@ -125,19 +122,17 @@ class SettingsOfThresholds(unittest.TestCase):
 
     def test_thresholds(self):
         """On a book that an image brought and on one that was opened, each in a period."""
-        for start, first in ((by_image, 95_000), (by_opening, 90_000)):
-            for threshold, number in ROWS:
-                with self.subTest(threshold, start=start.__name__):
-                    book, ledger = start(replace(SMALL, threshold=first))
-                    for machine in (book, ledger):
-                        enter(machine, 0, 100_000)
-                    self.set(number, book._book, threshold)
-                    ring = bytes(book._ring)
-                    for machine in (book, ledger):
-                        self.assertEqual(answered(machine.set_threshold, threshold), number)
-                    self.assertEqual(book.threshold, first if number else threshold)
-                    self.assertEqual(bytes(book._ring), ring)
-                    self.assertEqual(book.store(), image_of(ledger))
+        for (start, first), (threshold, number) in product(((by_image, 95_000), (by_opening, 90_000)), ROWS):
+            with self.subTest(threshold, start=start.__name__):
+                book, ledger = machines = start(replace(SMALL, threshold=first))
+                for machine in machines:
+                    enter(machine, 0, 100_000)
+                self.set(number, book._book, threshold)
+                ring = bytes(book._ring)
+                self.assertEqual([answered(machine.set_threshold, threshold) for machine in machines], [number] * 2)
+                self.assertEqual(book.threshold, first if number else threshold)
+                self.assertEqual(bytes(book._ring), ring)
+                self.assertEqual(book.store(), image_of(ledger))
 
     def test_order(self):
         """A closed book, or a damaged one, is refused by 10 whatever the threshold."""
@@ -203,8 +198,8 @@ class Images(unittest.TestCase):
         book, ledger = Book.load(IMAGE), begun(IMAGE)
         for number, price in enumerate((95_000, 95_001, 95_000, 1, 95_000, 95_000, 95_001)):
             for machine in (book, ledger):
-                for threshold in (95_000, 95_001, 5_000, 0):
-                    self.assertIn(answered(machine.set_threshold, threshold), (18, 44))
+                refused = [answered(machine.set_threshold, threshold) for threshold in (95_000, 95_001, 5_000, 0)]
+                self.assertEqual(refused, [44, 44, 44, 18])
                 machine.set_limits(60_000 + number, -60_000)
             self.assertEqual(enter(book, number, price), enter(ledger, number, price))
             self.assertEqual(book.report(0, 0), ledger.report(0, 0))

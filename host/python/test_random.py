@@ -78,8 +78,7 @@ def random_price(dice, energy):
 
 
 def bad_settings(dice):
-    """Settings of which one is outside its limits, or at them; in some the threshold is no multiple of 10,000 or out of
-    range beside."""
+    """Settings of which one is outside its limits, or at them; in one in two the threshold is another one too."""
     good = vars(random_settings(dice))
     thresholds = ("threshold", (*ODD_THRESHOLDS, near_hundreds(dice), near_hundreds(dice)))
     name, values = dice.choice((
@@ -280,7 +279,7 @@ class Calls:
             self.met["exactly at no multiple"] += total == threshold
 
     def set_threshold(self):
-        """One in two is taken; a multiple of 10,000 beyond the range is not."""
+        """More than one in two is taken; beside the multiples of 10,000, and at the range's ends and beyond."""
         thresholds = [random_threshold(self.dice)] * 4 + [near_hundreds(self.dice)] * 2
         self.on_both("set_threshold", self.dice.choice((*thresholds, self.dice.choice(ODD_THRESHOLDS))))
 

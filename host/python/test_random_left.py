@@ -10,7 +10,7 @@ from book import LARGEST_SUM
 from guxhamole import Book
 from image import image_of
 from ledger import Entry, Ledger
-from starts import by_image, by_opening
+from starts import by_image, by_opening, with_threshold
 from test_left import due_left, entered, first_above, library_left
 from test_random import near_hundreds, outcome, random_entry, random_price, random_settings, random_threshold
 from test_random_intervals import damaged_book
@@ -149,8 +149,7 @@ class Questions:
     def bring_threshold(self, threshold):
         """By an image with the book's entries and this threshold, whatever it is. No list of the ledger's begins with
         it, so the ledger is told."""
-        image = self.book.store()
-        self.book = Book.load(image[:28] + threshold.to_bytes(8, "little") + image[36:])
+        self.book = Book.load(with_threshold(self.book.store(), threshold))
         now = self.ledger.settings[-1]
         self.ledger.settings.append(now._replace(entries=self.ledger.taken, threshold=threshold))
         self.met["brought"] += 1
