@@ -1,6 +1,7 @@
 """Thresholds in whole hundreds (request 2026-06 of document 02): 44 of openings and settings, in its order; thresholds
 that an image brings, which stay until the next setting; and the ledger that begins with an image."""
 
+import struct
 import unittest
 from ctypes import c_int32
 from dataclasses import replace
@@ -8,7 +9,7 @@ from itertools import product
 
 import guxhamole
 from arithmetic import Refused
-from guxhamole import Book, Refusal, Settings, check
+from guxhamole import Book, Refusal, Settings, check, replay
 from image import begun, image_of, settings_in
 from ledger import Ledger
 from starts import blank_image, by_image, by_opening, with_threshold
@@ -51,6 +52,13 @@ def library_open(settings, places):
 def enter(machine, number, price):
     """The count and the table of an entry in a book of one region and one market."""
     return machine.enter(number, 0, [price], [0], [0], [10_000], [0, 0])
+
+
+def replayed(first, threshold):
+    """The numbers by which a replay answers an opening at one threshold and a setting of another."""
+    opening = struct.pack("<IHBBHBxH8sqii", 38, 64, 1, 0, 1, 1, 0, b"\xff" * 8, first, 60_000, -60_000)
+    answers = replay(opening + struct.pack("<IHq", 14, 66, threshold))
+    return [number for _, _, number, _ in struct.iter_unpack("<IHII", answers)]
 
 
 class Openings(unittest.TestCase):
@@ -102,6 +110,12 @@ class Openings(unittest.TestCase):
             self.assertEqual(answered(call, replace(SMALL, threshold=100_000_010_000, floor=0)), 18)
             self.assertEqual(answered(call, replace(SMALL, threshold=100_000, cap=0)), 19)
         self.opened(11, SMALL, 0)
+
+    def test_replay(self):
+        """A refused opening leaves the closed book, which refuses the setting by 10."""
+        for threshold, number in ROWS:
+            self.assertEqual(replayed(threshold, 100_000), [number, 10 if number else 0])
+            self.assertEqual(replayed(100_000, threshold), [0, number])
 
     def test_refusal(self):
         with self.assertRaises(Refusal) as caught:
