@@ -43,6 +43,12 @@ def answered(call, *arguments):
     return 0
 
 
+def fields(record):
+    """A record's numbers; the bytes between its fields are no part of it, and an answer has any there."""
+    values = [getattr(record, name) for name, _ in record._fields_]
+    return [value if isinstance(value, int) else list(value) for value in values]
+
+
 def library_open(settings, places):
     """The raw function's answer to an opening, and the ring as it then stands."""
     ring = (c_int32 * places)(*[FILL] * places)
@@ -67,10 +73,8 @@ class Openings(unittest.TestCase):
         answer, ring = library_open(settings, places)
         self.assertEqual((answer.number, answer.place), (number, 0), settings)
         self.assertEqual(ring, [FILL if number else 0] * places)
-        if number:
-            self.assertEqual(bytes(answer.book), bytes(guxhamole._Book()))
-        else:
-            self.assertEqual(bytes(answer.book), bytes(by_image(settings)[0]._book))
+        due = guxhamole._Book() if number else by_image(settings)[0]._book
+        self.assertEqual(fields(answer.book), fields(due))
 
     def test_thresholds(self):
         for threshold, number in ROWS:
@@ -132,7 +136,7 @@ class Setting(unittest.TestCase):
         self.assertEqual((answer.number, answer.place), (number, 0), threshold)
         if number == 0:
             before.threshold = threshold
-        self.assertEqual(bytes(answer.book), bytes(before))
+        self.assertEqual(fields(answer.book), fields(before))
 
     def test_thresholds(self):
         """On a book that an image brought and on one that was opened, each in a period."""
@@ -254,7 +258,7 @@ class Starts(unittest.TestCase):
         for threshold in ANSWERS[0]:
             settings = replace(SMALL, regions=2, services=1, window=3, first=4, threshold=threshold)
             (opened, _), (loaded, _) = by_opening(settings), by_image(settings)
-            self.assertEqual((bytes(opened._book), bytes(opened._ring)), (bytes(loaded._book), bytes(loaded._ring)))
+            self.assertEqual((fields(opened._book), list(opened._ring)), (fields(loaded._book), list(loaded._ring)))
 
     def test_first_position(self):
         """From 4 of 6, the second entry is the day's last, and releases."""
