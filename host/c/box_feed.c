@@ -3,8 +3,10 @@
    region 1's first service for half an hour; the periods end with the day. `box_feed records FOLDER` prints the same day with its
    intervals in files of records, which it writes to FOLDER, each interval's regions upward; `box_feed shuffled FOLDER` the same in
    every order. `box_feed short` prints host/c/box.lines, a sample with every kind of line, and `box_feed sample` the bytes of its
-   file of records, host/c/box.records. */
+   file of records, host/c/box.records. `box_feed image` prints an image of the market with nothing entered and a threshold of
+   95,000 cents, which no box can be set. */
 #include "feed.h"
+#include "test_books.h"
 
 #include <stdlib.h>
 #include <string.h>
@@ -173,7 +175,7 @@ static void put_bad_lines(void)
     feed_line(stdout, &line);
     line.marks[1] = 1; /* no schedule was given for region 1 */
     feed_line(stdout, &line);
-    puts("threshold 10000 cents\nthreshold 0\nlimits 60000\nlimits 3000000000 -1\nlimits 30000 1\nreport 5 0\nsell 3\n");
+    puts("threshold 10000 cents\nthreshold 0\nthreshold 95000\nlimits 60000\nlimits 3000000000 -1\nlimits 30000 1\nreport 5 0\nsell 3\n");
 }
 
 static void put_short(void)
@@ -199,6 +201,15 @@ static void put_short(void)
     put_questions();
 }
 
+static void put_image(void)
+{
+    uint8_t image[BLANK_IMAGE];
+    guxhamole_settings settings = BOX_SETTINGS;
+    settings.threshold = 95000;
+    blank_image(&settings, image);
+    fwrite(image, 1, sizeof image, stdout);
+}
+
 int main(int count, char **words)
 {
     const char *what = count > 1 ? words[1] : "";
@@ -210,6 +221,8 @@ int main(int count, char **words)
         put_short();
     else if (strcmp(what, "sample") == 0)
         put_sample();
+    else if (strcmp(what, "image") == 0)
+        put_image();
     else
         put_day();
     return 0;

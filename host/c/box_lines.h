@@ -10,7 +10,7 @@
      report REGION MARKET
      left REGION MARKET PRICE                          in cents: how many more intervals at this price until the sum exceeds the
                                                        threshold, as guxhamole_intervals_left answers it
-     threshold CENTS
+     threshold CENTS                                   in whole hundreds of dollars: a multiple of 10,000
      limits CAP FLOOR                                  in cents
      save */
 #ifndef BOX_LINES_H

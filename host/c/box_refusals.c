@@ -31,6 +31,7 @@ static const char *meaning(uint32_t number)
     case GUXHAMOLE_RECORD_KIND: return "a record's kind or region total that doesn't belong there";
     case GUXHAMOLE_RECORD_REGION: return "a record of an unknown region, or of one given before";
     case GUXHAMOLE_PLANNED_PRICE: return "a price outside its market's entry range";
+    case GUXHAMOLE_HUNDREDS: return "a threshold that is no multiple of 10,000 cents";
     default: return "unknown";
     }
 }

@@ -9,10 +9,12 @@
    slice that it is lent) is that of the rule's definition. A refused call writes nothing, hands the book back as it was and
    answers zeros beside number and place.
 
-   Proved over sequences of calls: for every opening and every list of calls after it the answers are exactly those of the
-   ledger machine, which keeps the whole history and no sum: acceptance, or refusal with its place; an entry's count and
-   published table; a report's four numbers. For that to hold of a host, it
-   - begins with an accepted guxhamole_open;
+   Proved over sequences of calls: for every start and every list of calls after it the answers are exactly those of the ledger
+   machine, which keeps the whole history and no sum: acceptance, or refusal with its place; an entry's count and published
+   table; a report's four numbers. A start is an opening, or the load of an image of a book without entries and with no period
+   marked, whoever made it; its settings then stand for the opening's, and its position for the first one. For that to hold of a
+   host, it
+   - begins with an accepted guxhamole_open, or with an accepted guxhamole_load of such an image;
    - hands each call the book that the call before handed back, accepted or refused; guxhamole_report, guxhamole_store,
      guxhamole_intervals_left and the two calls of interval records hand none back and change none, so that the next call gets
      the same book again;
@@ -21,7 +23,7 @@
    - restarts by a guxhamole_store into a long enough buffer and a guxhamole_load, from exactly the `length` bytes that were
      stored, into another ring of the right length, and goes on with the book and the ring of that load, in the same process or
      in a later one. The ledger machine doesn't see a restart: nothing is lost, and no answer is another for it. An older image
-     takes the history back to where it was stored; of one that others made or changed this says nothing.
+     takes the history back to where it was stored; of one with entries or periods that others made or changed this says nothing.
    Over such a sequence 10 and 22 never occur: either one says that the book or the ring was changed by others.
 
    What no proof speaks of and the host must see to: a slice is a pointer and its length in elements, aligned for its type. No
@@ -90,7 +92,8 @@ enum guxhamole_refusal {
     GUXHAMOLE_RECORD_BROKEN = 40, /* a record is missing or cut short, or its length is below 6 or not its known kind's */
     GUXHAMOLE_RECORD_KIND = 41,   /* a record's kind, or the head's region total, doesn't belong there */
     GUXHAMOLE_RECORD_REGION = 42, /* a record's region is none of the book's, or was given before */
-    GUXHAMOLE_PLANNED_PRICE = 43  /* the price of further intervals is outside its market's range of entry prices */
+    GUXHAMOLE_PLANNED_PRICE = 43, /* the price of further intervals is outside its market's range of entry prices */
+    GUXHAMOLE_HUNDREDS = 44       /* the threshold is within its range, but no multiple of 10,000: no whole hundreds of dollars */
 };
 
 /* What a book is opened with; money in cents. */
@@ -101,7 +104,7 @@ typedef struct guxhamole_settings {
     uint8_t halves;     /* H, half-hours a day, 1..48; a day has 6 x H intervals */
     uint16_t first;     /* the first entry's position in its day, 0..6 x H - 1 */
     uint8_t parents[8]; /* a lower region that is linked to this one, or 255 for none; 255 at 0 and from R up */
-    int64_t threshold;  /* 1..100,000,000,000 */
+    int64_t threshold;  /* a multiple of 10,000 in 1..100,000,000,000 */
     int32_t cap;        /* 1..10,000,000 */
     int32_t floor;      /* -10,000,000..-1 */
 } guxhamole_settings;
@@ -112,7 +115,7 @@ typedef struct guxhamole_book {
     uint8_t regions, services;
     uint16_t window;
     uint8_t halves, parents[8];
-    int64_t threshold;
+    int64_t threshold;  /* a multiple of 10,000, but that of a loaded image, any in the range, until the next setting */
     int32_t cap, floor;
     uint32_t entries;   /* taken; the next entry's number */
     uint16_t position;  /* the next entry's, in its day */
@@ -168,11 +171,11 @@ typedef struct guxhamole_rows {
 } guxhamole_rows;
 
 /* Opens a book and zeroes its ring of GUXHAMOLE_RING(R, S, W) places.
-   Refusals: 20, 11, 18, 19. Refused: the closed book, and the ring as it was. */
+   Refusals: 20, 11, 18, 44, 19. Refused: the closed book, and the ring as it was. */
 guxhamole_kept guxhamole_open(guxhamole_settings settings, int32_t *ring, size_t ring_length);
 
-/* Sets the threshold, or cap and floor, in cents, from the next entry on. An image keeps them.
-   Refusals: 10, 18; of the limits 10, 19. Refused: the book as it was. */
+/* Sets the threshold, a multiple of 10,000, or cap and floor, in cents, from the next entry on. An image keeps them.
+   Refusals: 10, 18, 44; of the limits 10, 19. Refused: the book as it was, with the threshold that it has, a multiple or not. */
 guxhamole_kept guxhamole_set_threshold(guxhamole_book book, int64_t threshold);
 guxhamole_kept guxhamole_set_limits(guxhamole_book book, int32_t cap, int32_t floor);
 
@@ -256,7 +259,8 @@ guxhamole_stored guxhamole_interval_write(guxhamole_book book, uint32_t entry, u
 guxhamole_stored guxhamole_store(guxhamole_book book, const int32_t *ring, size_t ring_length,
                                  uint8_t *image, size_t image_length);
 
-/* The book of an image, lent exactly its bytes, into a ring of the image's R x M x W places.
+/* The book of an image, lent exactly its bytes, into a ring of the image's R x M x W places. Its threshold may be any in
+   1..100,000,000,000 and stays until the next setting: an image is never refused by 44.
    Refusals: 24, 25, 26, 27, 11, 16; place of 16: from 0 among the image's prices. Refused: the closed book, and the ring as it
    was. No image is refused by another rule than its bytes and the ring's length: that it is the host's own market is for the
    host to see to (regions, services, window, halves and parents of the book). */

@@ -4,7 +4,7 @@
 #include <stdio.h>
 #include <string.h>
 
-static uint64_t number(const uint8_t *image, size_t at, int bytes)
+uint64_t independent_number(const uint8_t *image, size_t at, int bytes)
 {
     uint64_t n = 0;
     for (int i = bytes - 1; i >= 0; i--)
@@ -14,7 +14,7 @@ static uint64_t number(const uint8_t *image, size_t at, int bytes)
 
 static int64_t word(const uint8_t *image, size_t at)
 {
-    return (int32_t)(uint32_t)number(image, at, 4);
+    return (int32_t)(uint32_t)independent_number(image, at, 4);
 }
 
 static int parents_bad(const uint8_t *image, unsigned regions)
@@ -32,7 +32,7 @@ static int parents_bad(const uint8_t *image, unsigned regions)
 static int counts_bad(const uint8_t *image, unsigned regions, uint64_t window, uint64_t entries)
 {
     for (unsigned r = 0; r < 8; r++) {
-        uint64_t count = number(image, 44 + 2 * r, 2);
+        uint64_t count = independent_number(image, 44 + 2 * r, 2);
         if (r < regions ? count > window || count > entries : count != 0)
             return 1;
     }
@@ -53,7 +53,8 @@ static int periods_bad(const uint8_t *image, unsigned regions, unsigned services
 static int field_bad(const uint8_t *image)
 {
     unsigned regions = image[6], services = image[7], halves = image[10];
-    uint64_t window = number(image, 8, 2), entries = number(image, 20, 4), threshold = number(image, 28, 8);
+    uint64_t window = independent_number(image, 8, 2), entries = independent_number(image, 20, 4);
+    uint64_t threshold = independent_number(image, 28, 8);
     int64_t cap = word(image, 36), floor = word(image, 40);
     if (regions < 1 || regions > 8 || services > 10)
         return 1;
@@ -61,7 +62,7 @@ static int field_bad(const uint8_t *image)
         return 1;
     if (image[11] != 0 || image[26] != 0 || image[27] != 0)
         return 1;
-    if (entries > 10000000 || number(image, 24, 2) >= 6 * halves)
+    if (entries > 10000000 || independent_number(image, 24, 2) >= 6 * halves)
         return 1;
     if (threshold < 1 || threshold > 100000000000)
         return 1;
@@ -72,7 +73,7 @@ static int field_bad(const uint8_t *image)
 
 static uint64_t count_of(const uint8_t *image, unsigned region)
 {
-    return number(image, 44 + 2 * region, 2);
+    return independent_number(image, 44 + 2 * region, 2);
 }
 
 static uint64_t counted(const uint8_t *image)
@@ -90,9 +91,9 @@ static int price_bad(unsigned market, int64_t price)
 
 uint32_t independent_check(const uint8_t *image, size_t length)
 {
-    if (length < 148 || number(image, 0, 4) != length)
+    if (length < 148 || independent_number(image, 0, 4) != length)
         return 24;
-    if (number(image, 4, 2) != 1)
+    if (independent_number(image, 4, 2) != 1)
         return 25;
     if (field_bad(image))
         return 26;
@@ -135,7 +136,7 @@ size_t independent_sheet(const uint8_t *image, size_t length, char *out)
     if (refusal != 0)
         return (size_t)sprintf(out, "refused %u\n", refusal);
     unsigned regions = image[6], markets = image[7] + 1u;
-    if (regions * markets * number(image, 8, 2) > 16384)
+    if (regions * markets * independent_number(image, 8, 2) > 16384)
         return (size_t)sprintf(out, "refused 29\n");
     size_t n = (size_t)sprintf(out, "region,market,counted,sum,administered\n"), at = 148;
     for (unsigned r = 0; r < regions; r++)

@@ -6,6 +6,9 @@
 #include <stddef.h>
 #include <stdint.h>
 
+/* An image's number of so many bytes at a place. */
+uint64_t independent_number(const uint8_t *image, size_t at, int bytes);
+
 uint32_t independent_check(const uint8_t *image, size_t length);
 
 int64_t independent_index(uint64_t amount, const uint32_t c[4], const uint32_t b[4], uint64_t last);

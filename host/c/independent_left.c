@@ -7,15 +7,6 @@ enum { HOLDS_BOOK, HOLDS_LENGTH, HOLDS_MARKET, HOLDS_SUMS, HOLDS_PRICE };
 
 const uint32_t left_refusals[LEFT_REFUSALS] = {10, 11, 21, 22, 43};
 
-/* The total of a market's last W prices, or of all if there are fewer. */
-static int64_t window_sum(const int32_t *prices, size_t count, size_t window)
-{
-    int64_t sum = 0;
-    for (size_t i = count > window ? count - window : 0; i < count; i++)
-        sum += prices[i];
-    return sum;
-}
-
 /* Enters the price after the kept ones until the sum is above the threshold, at most W times. The copies lie beyond the count, and
    so are not kept. */
 static void enter_copies(struct independent_left *left, int32_t *prices, size_t count, size_t window, int32_t price,
@@ -23,7 +14,7 @@ static void enter_copies(struct independent_left *left, int32_t *prices, size_t 
 {
     for (uint32_t entered = 1; entered <= window && left->intervals == 0; entered++) {
         prices[count++] = price;
-        int64_t sum = window_sum(prices, count, window);
+        int64_t sum = independent_sum(prices, count, window);
         left->reached |= sum == threshold;
         if (sum > threshold)
             left->intervals = entered;
@@ -48,36 +39,16 @@ static void refuse(struct independent_left *left)
             left->number = left_refusals[i];
 }
 
-void independent_ledger_open(struct independent_ledger *ledger, const guxhamole_settings *settings)
-{
-    ledger->regions = settings->regions;
-    ledger->services = settings->services;
-    ledger->window = settings->window;
-    ledger->threshold = settings->threshold;
-    memset(ledger->counts, 0, sizeof ledger->counts);
-}
-
-void independent_ledger_enter(struct independent_ledger *ledger, const int32_t *prices, const uint8_t *marks)
-{
-    unsigned markets = ledger->services + 1;
-    for (unsigned region = 0; region < ledger->regions; region++) {
-        if (marks[region] == 1)
-            continue;
-        for (unsigned market = 0; market < markets; market++)
-            ledger->prices[11 * region + market][ledger->counts[region]] = prices[region * markets + market];
-        ledger->counts[region]++;
-    }
-}
-
 struct independent_left independent_ledger_left(struct independent_ledger *ledger, uint32_t region, uint32_t market, int32_t price)
 {
     struct independent_left left;
     memset(&left, 0, sizeof left);
-    left.holds[HOLDS_MARKET] = region >= ledger->regions || market > ledger->services;
+    left.holds[HOLDS_MARKET] = region >= ledger->settings.regions || market > ledger->settings.services;
     left.holds[HOLDS_PRICE] = price_bad(market, price);
     refuse(&left);
     if (left.number == 0)
-        enter_copies(&left, ledger->prices[11 * region + market], ledger->counts[region], ledger->window, price, ledger->threshold);
+        enter_copies(&left, ledger->prices[11 * region + market], ledger->counts[region], ledger->settings.window, price,
+                     ledger->settings.threshold);
     return left;
 }
 
@@ -142,7 +113,7 @@ static int window_bad(const guxhamole_book *book, const int32_t *ring, unsigned 
     size_t count = counted_prices(book, ring, region, market, prices);
     for (size_t i = 0; i < count; i++)
         bad |= price_bad(market, prices[i]);
-    return bad || window_sum(prices, count, count) != book->sums[11 * region + market];
+    return bad || independent_sum(prices, count, count) != book->sums[11 * region + market];
 }
 
 static int any_window_bad(const guxhamole_book *book, const int32_t *ring)

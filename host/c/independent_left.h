@@ -1,20 +1,12 @@
 /* Intervals left before a period in plain C, written from documents 01 and 02 alone and sharing nothing with the proved code: the
-   tests compare the two. A ledger keeps every price that an unmarked interval brought a market, and no sum. The number is found by
-   entering the price once more and adding the window up anew, again and again. */
+   tests compare the two. The number is found by entering the price once more and adding the window up anew, again and again: over
+   what a ledger kept, or over a lent book and ring. */
 #ifndef INDEPENDENT_LEFT_H
 #define INDEPENDENT_LEFT_H
 
-#include "guxhamole.h"
+#include "independent_ledger.h"
 
-/* Room for the entries of a test, and for a window of copies after them. */
-enum { LEDGER_MOST = 2 * 2016 + 100, LEFT_REFUSALS = 5 };
-
-struct independent_ledger {
-    unsigned regions, services, window;
-    int64_t threshold;
-    size_t counts[8];                /* of the intervals at which the region was unmarked */
-    int32_t prices[88][LEDGER_MOST]; /* that these brought, at 11 x region + market */
-};
+enum { LEFT_REFUSALS = 5 };
 
 /* The numbers that refuse a question, in their order. */
 extern const uint32_t left_refusals[LEFT_REFUSALS];
@@ -26,11 +18,6 @@ struct independent_left {
     int elsewhere;            /* 22 holds, and not for the market that is asked for */
     int reached;              /* a sum on the way was the threshold itself */
 };
-
-void independent_ledger_open(struct independent_ledger *ledger, const guxhamole_settings *settings);
-
-/* Takes an accepted entry's prices and marks. */
-void independent_ledger_enter(struct independent_ledger *ledger, const int32_t *prices, const uint8_t *marks);
 
 /* The answer from what the ledger kept: 21, 43 or a number. */
 struct independent_left independent_ledger_left(struct independent_ledger *ledger, uint32_t region, uint32_t market, int32_t price);

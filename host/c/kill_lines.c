@@ -10,9 +10,9 @@
 
 enum { SUSPENDED = 3 };
 
-static int32_t within(int32_t least, int32_t most)
+static int32_t cents_within(int32_t least, int32_t most)
 {
-    return least + (int32_t)below((uint64_t)(most - least + 1));
+    return (int32_t)within(least, most);
 }
 
 static struct line plain_line(enum line_word word)
@@ -31,7 +31,7 @@ static void put_schedule(FILE *out)
         for (int kind = 0; kind < KINDS; kind++) {
             line.kind = (uint8_t)kind;
             for (int half = 0; half < HALVES; half++)
-                line.row[half] = within(-90000, 90000);
+                line.row[half] = cents_within(-90000, 90000);
             feed_line(out, &line);
         }
 }
@@ -39,10 +39,10 @@ static void put_schedule(FILE *out)
 static int32_t any_price(int market)
 {
     if (market != 0)
-        return below(10) == 0 ? within(0, 90000) : within(0, 2000);
+        return below(10) == 0 ? cents_within(0, 90000) : cents_within(0, 2000);
     if (below(5) == 0)
-        return within(200000, 500000);
-    return below(6) == 0 ? within(-80000, 0) : within(3000, 15000);
+        return cents_within(200000, 500000);
+    return below(6) == 0 ? cents_within(-80000, 0) : cents_within(3000, 15000);
 }
 
 static struct line any_interval(uint32_t number)
@@ -54,7 +54,7 @@ static struct line any_interval(uint32_t number)
         line.prices[place] = any_price(place % MARKETS);
     line.marks[SUSPENDED] = below(5) == 0;
     for (int region = 0; region < REGIONS; region++) {
-        line.flows[region] = within(-1, 1);
+        line.flows[region] = (int32_t)within(-1, 1);
         line.factors[region] = (uint32_t)within(10000, 11000);
     }
     return line;
@@ -141,12 +141,14 @@ static void put_bad(FILE *out)
 static void put_settings(FILE *out)
 {
     struct line line = plain_line(LINE_THRESHOLD);
-    line.threshold = 10000 * (int64_t)within(10, 100);
+    line.threshold = 10000 * within(10, 100);
+    if (below(3) == 0) /* refused by 44: the box must come back with the threshold that it had */
+        line.threshold = threshold_beside(line.threshold);
     if (below(4) == 0)
         feed_line(out, &line);
     line.word = LINE_LIMITS;
-    line.cap = within(30000, 60000);
-    line.floor = -within(30000, 60000);
+    line.cap = cents_within(30000, 60000);
+    line.floor = -cents_within(30000, 60000);
     if (below(5) == 0)
         feed_line(out, &line);
 }
@@ -157,7 +159,7 @@ static void put_left(FILE *out)
 {
     struct line line = plain_line(LINE_LEFT);
     line.region = (uint32_t)within(0, REGIONS);
-    line.price = below(8) == 0 ? 10000001 : within(-20000, 60000);
+    line.price = below(8) == 0 ? 10000001 : cents_within(-20000, 60000);
     feed_line(out, &line);
 }
 

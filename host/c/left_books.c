@@ -3,6 +3,7 @@
 #include "left_books.h"
 
 #include "make.h"
+#include "test_books.h"
 
 #include <stdio.h>
 #include <stdlib.h>
@@ -16,11 +17,6 @@ void left_differs(const char *what, uint64_t from)
 {
     printf("left test: %s, from seed %llu\n", what, (unsigned long long)from);
     exit(1);
-}
-
-int64_t left_within(int64_t least, int64_t most)
-{
-    return least + (int64_t)below((uint64_t)(most - least + 1));
 }
 
 guxhamole_book left_enter(guxhamole_book book, int32_t *ring, size_t places, const int32_t *prices, const uint8_t *marks)
@@ -37,15 +33,21 @@ guxhamole_book left_enter(guxhamole_book book, int32_t *ring, size_t places, con
     return entered.book;
 }
 
-void running_open(struct running *running, const guxhamole_settings *settings)
+void running_begin(struct running *running, const guxhamole_settings *settings, int loaded)
 {
+    uint8_t image[BLANK_IMAGE];
+    blank_image(settings, image);
     running->places = GUXHAMOLE_RING(settings->regions, settings->services, settings->window);
-    guxhamole_kept kept = guxhamole_open(*settings, running->ring, running->places);
+    guxhamole_kept kept = loaded ? guxhamole_load(image, sizeof image, running->ring, running->places)
+                                 : guxhamole_open(*settings, running->ring, running->places);
     if (kept.number != 0)
-        left_differs("an opening was refused", seed);
+        left_differs("an opening or a blank image was refused", seed);
     running->book = kept.book;
     running->style = ANY;
-    independent_ledger_open(&running->ledger, settings);
+    if (loaded)
+        independent_ledger_load(&running->ledger, image);
+    else
+        independent_ledger_open(&running->ledger, settings);
 }
 
 void running_enter(struct running *running, const int32_t *prices, const uint8_t *marks)
@@ -57,7 +59,7 @@ void running_enter(struct running *running, const int32_t *prices, const uint8_t
 /* In ten thousands; sums lie on both sides of it. */
 static int64_t any_threshold(int style, unsigned window)
 {
-    return 10000 * left_within(1, (style == FAR ? 800 : 6) * (int64_t)window + 3);
+    return 10000 * within(1, (style == FAR ? 800 : 6) * (int64_t)window + 3);
 }
 
 void any_running(struct running *running)
@@ -65,10 +67,10 @@ void any_running(struct running *running)
     guxhamole_settings settings;
     memset(&settings, 0, sizeof settings);
     int style = below(3) ? EVEN : (int)below(STYLES);
-    settings.regions = (uint8_t)left_within(1, below(3) ? 3 : 8);
-    settings.services = (uint8_t)(below(5) ? left_within(0, 3) : 10);
-    settings.window = (uint16_t)left_within(1, below(4) ? 7 : BOOK_WINDOW);
-    settings.halves = (uint8_t)left_within(1, 2);
+    settings.regions = (uint8_t)within(1, below(3) ? 3 : 8);
+    settings.services = (uint8_t)(below(5) ? within(0, 3) : 10);
+    settings.window = (uint16_t)within(1, below(4) ? 7 : BOOK_WINDOW);
+    settings.halves = (uint8_t)within(1, 2);
     memset(settings.parents, 255, sizeof settings.parents);
     for (int region = 1; region < settings.regions; region++)
         if (below(2))
@@ -76,7 +78,10 @@ void any_running(struct running *running)
     settings.threshold = any_threshold(style, settings.window);
     settings.cap = 60000;
     settings.floor = -60000;
-    running_open(running, &settings);
+    int loaded = below(3) == 0;
+    if (loaded && below(2))
+        settings.threshold = threshold_beside(settings.threshold);
+    running_begin(running, &settings, loaded);
     running->style = style;
 }
 
@@ -94,28 +99,31 @@ static void restart(struct running *running)
 static void set_threshold(struct running *running)
 {
     int64_t threshold = any_threshold(running->style, running->book.window);
+    if (below(4) == 0)
+        threshold = threshold_beside(threshold);
     guxhamole_kept kept = guxhamole_set_threshold(running->book, threshold);
-    if (kept.number != 0)
-        left_differs("a threshold was refused", seed);
+    if (kept.number != independent_threshold(threshold))
+        left_differs("a threshold was answered otherwise", seed);
     running->book = kept.book;
-    running->ledger.threshold = threshold;
+    if (kept.number == 0)
+        running->ledger.settings.threshold = threshold;
 }
 
 int32_t any_price(const struct running *running, uint32_t market)
 {
     static const int32_t farthest[] = {-10000000, 10000000, 9999999, -9999999, 0, 1};
-    int64_t price = 10000 * left_within(-6, 9);
+    int64_t price = 10000 * within(-6, 9);
     switch (running->style) {
     case EVEN:
         break;
     case ABOUT:
-        price += left_within(-1, 1);
+        price += within(-1, 1);
         break;
     case ANY:
-        price = left_within(-60000, 90000);
+        price = within(-60000, 90000);
         break;
     default:
-        price = below(2) ? farthest[below(sizeof farthest / sizeof *farthest)] : left_within(-10000000, 10000000);
+        price = below(2) ? farthest[below(sizeof farthest / sizeof *farthest)] : within(-10000000, 10000000);
     }
     return (int32_t)(market != 0 && price < 0 ? -price : price);
 }

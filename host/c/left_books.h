@@ -1,5 +1,5 @@
-/* Books to ask for the intervals left, from make.h's seed: each is opened, takes entries, settings and restarts through the calls,
-   and has a ledger beside it that is told the same. */
+/* Books to ask for the intervals left, from make.h's seed: each is opened or loaded, takes entries, settings and restarts through
+   the calls, and has a ledger beside it that is told the same. */
 #ifndef LEFT_BOOKS_H
 #define LEFT_BOOKS_H
 
@@ -18,16 +18,15 @@ struct running {
 /* Says what is wrong, with the seed that repeats it, and ends. */
 void left_differs(const char *what, uint64_t from);
 
-int64_t left_within(int64_t least, int64_t most);
-
 /* One more entry of a book, its number the next, with no flows and a schedule of zeros. It must be accepted. */
 guxhamole_book left_enter(guxhamole_book book, int32_t *ring, size_t places, const int32_t *prices, const uint8_t *marks);
 
-/* Opens a book, which must be accepted; enters prices at marks. */
-void running_open(struct running *running, const guxhamole_settings *settings);
+/* Begins a book, by an opening or by the image of the opened book, which must be accepted; enters prices at marks. */
+void running_begin(struct running *running, const guxhamole_settings *settings, int loaded);
 void running_enter(struct running *running, const int32_t *prices, const uint8_t *marks);
 
-/* Opens a book of any shape; takes any entry, and before it now and then a threshold or a restart. */
+/* Begins a book of any shape, by an image with any threshold too; takes any entry, and before it now and then a threshold or a
+   restart. */
 void any_running(struct running *running);
 void any_step(struct running *running);
 

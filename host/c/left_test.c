@@ -247,7 +247,7 @@ static const struct worked worked[] = {
 static void open_worked(uint16_t window, int64_t threshold)
 {
     guxhamole_settings settings = {2, 1, window, 1, 0, {255, 0, 255, 255, 255, 255, 255, 255}, threshold, 60000, -60000};
-    running_open(&running, &settings);
+    running_begin(&running, &settings, 0);
 }
 
 /* The price in a market of region 1, which may be marked, and others elsewhere. */
@@ -302,7 +302,7 @@ static void worked_cases(void)
     guxhamole_settings settings = {1, 0, 2016, 48, 0, {255, 255, 255, 255, 255, 255, 255, 255}, 139810000, 60000, -60000};
     static const uint8_t marks[1] = {0};
     static const int32_t old = 5000, price = 1500000;
-    running_open(&running, &settings);
+    running_begin(&running, &settings, 0);
     for (int i = 0; i < 2016; i++)
         running_enter(&running, &old, marks);
     fill_question(&question, &running.book, running.ring, running.places);

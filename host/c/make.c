@@ -19,6 +19,28 @@ uint64_t below(uint64_t n)
     return next() % n;
 }
 
+int64_t within(int64_t least, int64_t most)
+{
+    return least + (int64_t)below((uint64_t)(most - least + 1));
+}
+
+/* Multiples of 1,000 and of 5,000 among them. */
+int64_t threshold_beside(int64_t multiple)
+{
+    static const int64_t less[] = {1, 1000, 5000, 9999}, worked[] = {1, 9999, 10001, 95000, 99999999999};
+    switch (below(4)) {
+    case 0: return worked[below(sizeof worked / sizeof *worked)];
+    case 1: return multiple - within(1, 9999);
+    default: return multiple - less[below(sizeof less / sizeof *less)];
+    }
+}
+
+int64_t threshold_out(void)
+{
+    static const int64_t out[] = {0, -1, -10000, -95000, 100000000001, 100000010000, INT64_MIN, INT64_MAX};
+    return out[below(sizeof out / sizeof *out)];
+}
+
 struct plan plain(void)
 {
     struct plan p;
@@ -84,7 +106,9 @@ struct plan any_plan(unsigned widest)
             p.parents[r] = (uint8_t)below(r);
     p.entries = (uint32_t)below(10000001);
     p.position = (unsigned)below(6 * p.halves);
-    p.threshold = 1 + (int64_t)below(100000000000);
+    p.threshold = 10000 * within(1, 10000000);
+    if (below(3) == 0)
+        p.threshold = threshold_beside(p.threshold);
     p.cap = 1 + (int32_t)below(10000000);
     p.floor = -1 - (int32_t)below(10000000);
     for (unsigned r = 0; r < p.regions; r++) {

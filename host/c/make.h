@@ -29,12 +29,19 @@ size_t lay_out(const struct plan *plan, int32_t price, uint8_t *image);
 void put_number(uint8_t *image, size_t at, int bytes, uint64_t n);
 void put_price(uint8_t *image, size_t place, int32_t price);
 
-/* The next of a fixed run of numbers, and one below `n`. */
+/* The next of a fixed run of numbers, one below `n`, and one from `least` to `most`. */
 extern uint64_t seed;
 uint64_t next(void);
 uint64_t below(uint64_t n);
+int64_t within(int64_t least, int64_t most);
 
-/* A plan whose image passes the check, with windows of at most `widest`; and its image with random prices in range. */
+/* A threshold in range that is no multiple of 10,000, which an image may hold and which openings and settings refuse: one of the
+   9,999 below the multiple that is told, or a worked one, whatever is told. And one out of range, multiples among them. */
+int64_t threshold_beside(int64_t multiple);
+int64_t threshold_out(void);
+
+/* A plan whose image passes the check, with windows of at most `widest` and a threshold that is mostly a multiple of 10,000; and
+   its image with random prices in range. */
 struct plan any_plan(unsigned widest);
 size_t any_image(unsigned widest, uint8_t *image);
 

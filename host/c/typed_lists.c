@@ -1,9 +1,11 @@
 /* Lists of typed calls over random books. Each call is made, and beside it written as a record (docs/RECORDS.md) with the record
-   of its answer; at the end guxhamole_replay must write the same answers from the same calls. */
+   of its answer; at the end guxhamole_replay must write the same answers from the same calls. Openings and settings are held to the
+   independent refusals as well. */
 #include "typed_lists.h"
 
 #include "guarded.h"
 #include "guxhamole.h"
+#include "independent_ledger.h"
 #include "make.h"
 
 #include <string.h>
@@ -38,12 +40,14 @@ struct host {
     guxhamole_settings settings;
     struct lengths right;
     guxhamole_book book;
+    int opened;
     int32_t *ring, *other;
     size_t other_length, image_length;
     uint8_t *image;
     struct entry entry;
     struct list_counts *counts;
     int whole; /* no call wrote to what it wasn't lent */
+    int ruled; /* openings and settings were answered as the independent rules say */
 };
 
 static void put(struct bytes *to, int width, uint64_t number)
@@ -74,14 +78,19 @@ static void put_answer(struct host *host, size_t length, enum kind kind, uint32_
     host->whole &= guarded_whole();
 }
 
-static int64_t within(int64_t least, int64_t most)
-{
-    return least + (int64_t)below((uint64_t)(most - least + 1));
-}
-
 static int seldom(unsigned times)
 {
     return below(times) == 0;
+}
+
+static int64_t any_threshold(void)
+{
+    int64_t multiple = 10000 * within(1, 40);
+    switch (below(8)) {
+    case 0: return threshold_out();
+    case 1: case 2: return threshold_beside(multiple);
+    default: return multiple;
+    }
 }
 
 static guxhamole_settings any_settings(void)
@@ -106,14 +115,15 @@ static guxhamole_settings any_settings(void)
 /* In one list of ten a setting is bad, and every call after it is refused by 10. */
 static void spoil_settings(guxhamole_settings *settings)
 {
-    switch (below(70)) {
+    switch (below(80)) {
     case 0: settings->regions = seldom(2) ? 0 : 9; break;
     case 1: settings->services = 11; break;
     case 2: settings->window = seldom(2) ? 0 : 2017; break;
     case 3: settings->first = (uint16_t)(6 * settings->halves); break;
     case 4: settings->parents[below(8)] = (uint8_t)within(0, 8); break;
-    case 5: settings->threshold = seldom(2) ? 0 : 100000000001; break;
-    case 6: settings->cap = seldom(2) ? 0 : 10000001; break;
+    case 5: settings->threshold = threshold_out(); break;
+    case 6: settings->threshold = threshold_beside(settings->threshold); break;
+    case 7: settings->cap = seldom(2) ? 0 : 10000001; break;
     default: break;
     }
 }
@@ -152,6 +162,8 @@ static void open_book(struct host *host)
     put(&calls, 4, (uint32_t)settings->cap);
     put(&calls, 4, (uint32_t)settings->floor);
     guxhamole_kept kept = guxhamole_open(*settings, host->ring, host->right.ring);
+    host->opened = kept.number == GUXHAMOLE_ACCEPTED;
+    host->ruled &= kept.number == independent_opening(settings, host->right.ring);
     host->book = kept.book;
     put_answer(host, 14, OPENING, kept.number, kept.place);
 }
@@ -251,12 +263,19 @@ static void enter(struct host *host)
     host->counts->changed += entered.count;
 }
 
+/* A setting is refused by the rule, or by 10 where the opening was refused. */
+static void expect(struct host *host, uint32_t number, uint32_t ruled)
+{
+    host->ruled &= number == (host->opened ? ruled : 10);
+}
+
 static void set_threshold(struct host *host)
 {
-    int64_t threshold = seldom(5) ? (seldom(2) ? 0 : 100000000001) : 10000 * within(1, 40);
+    int64_t threshold = any_threshold();
     put_head(&calls, 14, THRESHOLD);
     put(&calls, 8, (uint64_t)threshold);
     guxhamole_kept kept = guxhamole_set_threshold(host->book, threshold);
+    expect(host, kept.number, independent_threshold(threshold));
     host->book = kept.book;
     put_answer(host, 14, THRESHOLD, kept.number, kept.place);
 }
@@ -268,6 +287,7 @@ static void set_limits(struct host *host)
     put(&calls, 4, (uint32_t)cap);
     put(&calls, 4, (uint32_t)floor);
     guxhamole_kept kept = guxhamole_set_limits(host->book, cap, floor);
+    expect(host, kept.number, independent_limits(cap, floor));
     host->book = kept.book;
     put_answer(host, 14, LIMITS, kept.number, kept.place);
 }
@@ -346,7 +366,7 @@ int list_alike(struct list_counts *counts)
     spoil_settings(&host.settings);
     host.right = lengths_of(good, host.settings);
     host.counts = counts;
-    host.whole = 1;
+    host.whole = host.ruled = 1;
     calls.length = wanted.length = 0;
     lend(&host);
     open_book(&host);
@@ -361,7 +381,7 @@ int list_alike(struct list_counts *counts)
         if (seldom(7))
             restart(&host);
     }
-    int alike = host.whole && replayed_alike(&host);
+    int alike = host.whole && host.ruled && replayed_alike(&host);
     guarded_free();
     return alike;
 }

@@ -6,6 +6,7 @@
 #include "guxhamole.h"
 #include "independent.h"
 #include "make.h"
+#include "test_books.h"
 #include "typed_lists.h"
 
 #include <stdio.h>
@@ -30,24 +31,6 @@ static void lists(struct list_counts *counts)
         if (!list_alike(counts))
             differs("a list", from);
     }
-}
-
-static int same_book(const guxhamole_book *one, const guxhamole_book *other)
-{
-    return one->regions == other->regions && one->services == other->services && one->window == other->window &&
-           one->halves == other->halves && memcmp(one->parents, other->parents, sizeof one->parents) == 0 &&
-           one->threshold == other->threshold && one->cap == other->cap && one->floor == other->floor &&
-           one->entries == other->entries && one->position == other->position &&
-           memcmp(one->counts, other->counts, sizeof one->counts) == 0 &&
-           memcmp(one->nexts, other->nexts, sizeof one->nexts) == 0 &&
-           memcmp(one->sums, other->sums, sizeof one->sums) == 0 && memcmp(one->marks, other->marks, sizeof one->marks) == 0;
-}
-
-static int is_closed(const guxhamole_book *book)
-{
-    guxhamole_book closed;
-    memset(&closed, 0, sizeof closed);
-    return same_book(book, &closed);
 }
 
 /* The reports of a loaded book are the lines of the independent day sheet. */
@@ -234,7 +217,7 @@ static void pass_on(const struct passed_on *passed)
 {
     static const uint8_t marks[4] = {0};
     static const int32_t still[4] = {0}, schedule[8] = {0}, first[4] = {100000, 0, 0, 0};
-    guxhamole_settings settings = {4, 0, 1, 1, 0, {255, 0, 1, 2, 255, 255, 255, 255}, 95000, passed->cap, passed->floor};
+    guxhamole_settings settings = {4, 0, 1, 1, 0, {255, 0, 1, 2, 255, 255, 255, 255}, 90000, passed->cap, passed->floor};
     int32_t *ring = (int32_t *)guarded(16), *table = (int32_t *)guarded(16), prices[4], flows[4];
     for (size_t region = 0; region < 4; region++) {
         prices[region] = passed->price;

@@ -1,0 +1,15 @@
+/* What the tests of books share: the image with which a list may begin in an opening's place, and whether two books are the same. */
+#ifndef TEST_BOOKS_H
+#define TEST_BOOKS_H
+
+#include "guxhamole.h"
+
+enum { BLANK_IMAGE = 148 };
+
+/* The image of the settings' book with no entries, so with nothing counted, and no period. The threshold may be any. */
+void blank_image(const guxhamole_settings *settings, uint8_t *image);
+
+int same_book(const guxhamole_book *one, const guxhamole_book *other);
+int is_closed(const guxhamole_book *book);
+
+#endif
