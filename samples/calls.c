@@ -99,6 +99,7 @@ static void put_guide(void)
     put_head(6, 69);
     put_entry(1, flows, factors, REGIONS);
     put_threshold(0);
+    put_threshold(95000);
     put_threshold(100000);
     put_limits(50000, 0);
     put_limits(50000, -50000);

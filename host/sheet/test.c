@@ -1,6 +1,6 @@
 /* Plays inputs into the program daysheet and holds what it writes to an independent reader: every refusal, the bounds of the
-   input's length and of the ring, and random images. Takes the program's path. Exit status 1 with the case at the first
-   difference. */
+   input's length, of the ring and of the threshold, and random images. Takes the program's path. Exit status 1 with the case at
+   the first difference. */
 #include "../c/independent.h"
 #include "../c/make.h"
 
@@ -148,6 +148,21 @@ static void rings(void)
     play("16,390 places", lay_out(&p, 0, image), "refused 29\n");
 }
 
+/* An image may hold any threshold in range, a multiple of 10,000 or not. */
+static void thresholds(void)
+{
+    static const int64_t in[] = {1, 9999, 10001, 95000, 100000, 99999999999, 100000000000}, out[] = {0, -10000, 100000000001};
+    struct plan p = plain();
+    for (unsigned i = 0; i < sizeof in / sizeof *in; i++) {
+        p.threshold = in[i];
+        play("a threshold in range", lay_out(&p, 0, image), "region,market,counted,sum,administered\n0,0,0,0.00,0\n");
+    }
+    for (unsigned i = 0; i < sizeof out / sizeof *out; i++) {
+        p.threshold = out[i];
+        play("a threshold out of range", lay_out(&p, 0, image), "refused 26\n");
+    }
+}
+
 /* Sums at the ends of their range. */
 static void sums(void)
 {
@@ -170,6 +185,7 @@ int main(int count, char **words)
     refusals();
     longest();
     rings();
+    thresholds();
     sums();
     for (int i = 0; i < 300; i++) {
         size_t length = any_image(i < 250 ? 20 : 150, image);
