@@ -17,8 +17,9 @@
 
    At its start the box loads IMAGE, or IMAGE.old where IMAGE is missing or refused, or opens a new book where neither is there;
    where neither loads it doesn't start. What comes back: the entries taken, the position in the day, threshold and limits, the
-   windows' prices and sums, and the periods. What doesn't and must be given again: the schedule's rows. An image has no checksum:
-   a price that was changed to another one in range loads.
+   windows' prices and sums, and the periods; a threshold too that no setting takes, being no whole hundreds of dollars, which then
+   stays until the next one is set. What doesn't and must be given again: the schedule's rows. An image has no checksum: a price
+   that was changed to another one in range loads.
 
    Nothing is deduplicated. A feeder that doesn't know whether its last interval was saved sends it again: refused by 13, it was. A
    box that started on IMAGE.old may be one save behind: its feeder goes on from the `entries taken` that the start says, and sets

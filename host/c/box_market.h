@@ -23,7 +23,7 @@ enum {
 };
 
 /* Regions 1 and 2 hang on region 0, regions 3 and 4 on region 2. The first entry is the first interval of a day. A threshold of
-   1,823,600 dollars, limits of 600 dollars, in cents. */
+   1,823,600 dollars (whole hundreds, or the opening is refused), limits of 600 dollars, in cents. */
 #define BOX_SETTINGS {REGIONS, SERVICES, WINDOW, HALVES, 0, {255, 0, 0, 2, 2, 255, 255, 255}, 182360000, 60000, -60000}
 
 #endif
