@@ -1,13 +1,16 @@
--- Rule 10 of its parts, and that a refusal is none of an acceptance. Assumes nothing.
-use mathlib.Core.Path.{_≡_, refl}
+-- Rule 10 of its parts, that a refusal is none of an acceptance, and what an answer says of its verdict. Assumes nothing.
+use mathlib.Core.Path.{_≡_, refl, sym, ap, _∙_}
 use mathlib.Core.Bool.{Bool, false, _&&_}
 use lib.Dec.{leb}
 use Rattle.laws.proofs.Tests.{and-assoc}
+use Rattle.pricing.specs.Verdict.{Verdict, accepted}
 use Rattle.pricing.specs.Holding.{limitsOk}
 use Rattle.book.specs.declared.record.Book.{Book}
 use Rattle.book.specs.declared.record.Refusal.{Refusal}
 use Rattle.book.specs.declared.record.Refusal.the-variants.{Invalid, Length, Full, Number, Kind, Mark, Price, Factor, Threshold, Limits, Setting, Market, Sums, Buffer, ImageLength, ImageKind, ImageField, ImageTotal, Broken, RecordKind, RecordRegion, PlannedPrice, Hundreds}
-use Rattle.book.specs.Record.{verdictOf, isAccepted}
+use Rattle.book.specs.declared.record.Answer.{Answer}
+use Rattle.book.specs.declared.record.Answer.the-variants.{Accepted, Refused}
+use Rattle.book.specs.Record.{verdictOf, verdict, isAccepted}
 use Rattle.book.specs.Validity.{shapeOk, parentsOk, thresholdOk, regionsOk, placesOk, valid}
 
 -- rule 10 of its parts, as the code groups them
@@ -47,3 +50,11 @@ refusal-is RecordKind = refl
 refusal-is RecordRegion = refl
 refusal-is PlannedPrice = refl
 refusal-is Hundreds = refl
+
+-- ---- an answer that says a verdict
+module _ (a : Answer) (v : Verdict) (h : verdict a ≡ v) where
+  pub is-accepted : a ≡ Accepted → v ≡ accepted
+  is-accepted e = sym h ∙ ap verdict e
+
+  pub is-refused : (r : Refusal) → a ≡ Refused r → (v ≡ verdictOf r) × (isAccepted v ≡ false)
+  is-refused r e = let q : v ≡ verdictOf r = sym h ∙ ap verdict e in (q, rw q (refusal-is r))

@@ -1,6 +1,6 @@
 -- A book that an accepted call hands back is accepted by rule 10, a refused call hands back the lent book, and a setting moves
 -- no report. Assumes nothing.
-use mathlib.Core.Path.{_≡_, refl, sym}
+use mathlib.Core.Path.{_≡_, refl, sym, ap, _∙_}
 use mathlib.Core.Bool.{Bool, true, false, not}
 use mathlib.Core.List.{List}
 use mathlib.Core.Logic.{inr}
@@ -22,7 +22,7 @@ use Rattle.book_calls.specs.Setting.{inHundreds, thresholdVerdict, limit
 use Rattle.book_calls.specs.Report.{reportOf, reported}
 use Rattle.laws.proofs.Lists.{all-at}
 use Rattle.book.proofs.Validities.{parts, shape-is, parent-is, Valid, is-valid}
-use Rattle.book_calls.proofs.Ways.{settingsOk, ringOk, open-0, threshold-0}
+use Rattle.book_calls.proofs.Ways.{settingsOk, ringOk, open-tests, open-0, threshold-tests, threshold-0}
 use Rattle.book.proofs.Passes.{passes-not, passes-verdict}
 
 -- ---- rule 10 and the closed book
@@ -32,9 +32,8 @@ closed-invalid = refl
 
 -- ---- thresholds that are taken
 pub threshold-is : (threshold : ℤ) → isAccepted (thresholdVerdict threshold) ≡ true → (thresholdOk threshold ≡ true) × (inHundreds threshold ≡ true)
-unfolding thresholdVerdict
 threshold-is threshold e =
-    let p = passes-not (thresholdOk threshold) (refused 18) _ refl e in
+    let p = passes-not (thresholdOk threshold) (refused 18) _ refl (sym (ap isAccepted (threshold-tests threshold)) ∙ e) in
     (p .0, passes-not (inHundreds threshold) (refused 44) accepted refl (p .1) .0)
 
 pub threshold-accepted : (threshold : ℤ) → isAccepted (thresholdVerdict threshold) ≡ true → thresholdVerdict threshold ≡ accepted
@@ -46,9 +45,8 @@ zero-at r h = getD-replicate 8 r 0 0 h
 
 module _ (s : Settings) (n : ℕ) (e : isAccepted (openVerdict s n) ≡ true) where
   passed : (settingsOk s ≡ true) × (ringOk s n ≡ true) × (isAccepted (thresholdVerdict (s .threshold)) ≡ true) × (limitsOk (s .cap) (s .floor) ≡ true)
-  unfolding openVerdict
   passed =
-      let p = passes-not (settingsOk s) (refused 20) _ refl e in
+      let p = passes-not (settingsOk s) (refused 20) _ refl (sym (ap isAccepted (open-tests s n)) ∙ e) in
       let q = passes-not (ringOk s n) (refused 11) _ refl (p .1) in
       let t = passes-verdict (thresholdVerdict (s .threshold)) _ (q .1) in
       let u = passes-not (limitsOk (s .cap) (s .floor)) (refused 19) _ refl (t .1) in

@@ -20,7 +20,7 @@ use Rattle.book.specs.declared.record.Answer.the-variants.{Accepted, Refused}
 use Rattle.book.specs.Record.{closed, verdictOf, verdict, isAccepted}
 use Rattle.book.specs.Validity.{valid}
 use Rattle.book.proofs.Validities.{Valid, valid-is, is-valid}
-use Rattle.book.proofs.Ways.{refusal-is}
+use Rattle.book.proofs.Ways.{is-accepted, is-refused}
 use Rattle.image.specs.declared.storing.Image.the-variants as image
 use Rattle.head.specs.Counted.{marketCount, counted, howMany}
 use Rattle.head.specs.Layout.{widths, headSize, lengthOf, values, imageOf, bookOf, headFrom}
@@ -30,14 +30,6 @@ use Rattle.image.specs.Loading.{zerosOk, headVerdict, badFrom, firstBad,
 use Rattle.image.specs.Loading as load
 use Rattle.image.proofs.Lengths.{length-image}
 use Rattle.image.proofs.Verdicts.{head-ok, LoadOk, load-ok, ok-load, ok-loaded, StoreOk, store-ok, ok-store, ok-stored}
-
--- ---- an answer that says a verdict
-module _ (a : Answer) (v : Verdict) (h : verdict a ≡ v) where
-  pub is-accepted : a ≡ Accepted → v ≡ accepted
-  is-accepted e = sym h ∙ ap verdict e
-
-  pub is-refused : (r : Refusal) → a ≡ Refused r → (v ≡ verdictOf r) × (isAccepted v ≡ false)
-  is-refused r e = let q : v ≡ verdictOf r = sym h ∙ ap verdict e in (q, rw q (refusal-is r))
 
 -- ---- the head of an image
 module _ (l : List ℕ) where

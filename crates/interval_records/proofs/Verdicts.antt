@@ -12,22 +12,10 @@ use lib.ListN.{length}
 use Rattle.laws.specs.Lists.{anyBelow}
 use Rattle.laws.specs.Bytes.{numberAt}
 use Rattle.pricing.specs.Verdict.{Verdict, accepted, refused}
-use Rattle.book.specs.declared.record.Refusal.{Refusal}
-use Rattle.book.specs.declared.record.Answer.{Answer}
-use Rattle.book.specs.declared.record.Answer.the-variants.{Accepted, Refused}
-use Rattle.book.specs.Record.{verdict, isAccepted}
-use Rattle.book.proofs.Ways.{refusal-is}
+use Rattle.book.specs.Record.{isAccepted}
 use Rattle.interval_records.specs.Layout.{headLength, regionLength}
 use Rattle.interval_records.specs.Record.{lengthAt, kindAt, knownLength, whole, dueVerdict, headVerdict, recordPlace, regionAt, firstRefusal}
 use Rattle.interval_records.specs.AnyOrder.{stray, regionVerdict, recordsVerdict}
-
--- ---- an answer that says a verdict
-module _ (a : Answer) (v : Verdict) (h : verdict a ≡ v) where
-  pub is-accepted : a ≡ Accepted → isAccepted v ≡ true
-  is-accepted e = rw (← h, e) refl
-
-  pub is-refused : (r : Refusal) → a ≡ Refused r → isAccepted v ≡ false
-  is-refused r e = rw (← h, e) (refusal-is r)
 
 -- ---- the length of a known kind
 module _ (markets kind : ℕ) where

@@ -4,7 +4,7 @@
 -- Positions, sums, counts, settings at an entry, periods and restarts are P's own. These definitions it shares with the book, so that
 -- DEMAND 3 alone would not show a mistake in them; what guards them besides:
 --   refusals after 10: `entryVerdict` (over `Shape`), `thresholdVerdict`, `limitsVerdict`, `reportVerdict`: the literal answers of proofs/Run
---   (12: proofs/Full), the program guide_books, must-fail edits of entries and book
+--   (12: proofs/Full), the program guide_books, must-fail edits of entries, book and book_calls
 --   steps 1 to 4: `tableOf` and `countOf` over `Terms` and `Entry`: the literal tables of proofs/Cases, Chains (limits over links) and Run,
 --   the programs guide and guide_books, must-fail edits of publishing and routes
 --   sizes and places: `marketsOf`, `ringSize`, `usedPlace`: the same lists and programs, must-fail edits of book
@@ -217,6 +217,6 @@ play p (limits c f) = playSetting p (limitsVerdict c f) (limits-set c f)
 play p (report region market) = record { state = p; answer = reported (reportOf p region market) }
 play p (restart buffer ring) = record { state = p; answer = restarted (restartVerdict p (length buffer) (length ring)) }
 
--- P after the opening
+-- P after the opening, or with the settings of an image that stand for the opening's (specs/Demand)
 abbrev pub begin : Settings → Ledger
 begin s = record { settings = s; items = [] }

@@ -21,12 +21,12 @@ use Rattle.book.specs.declared.record.Answer.the-variants as answer
 use Rattle.book.specs.Record.{marketsOf, ringSize, placeOf, verdict, isAccepted}
 use Rattle.book.specs.Validity.{valid}
 use Rattle.book.proofs.Passes.{passes-not}
+use Rattle.book.proofs.Ways.{is-accepted, is-refused}
 use Rattle.book.proofs.Validities.{Valid, valid-is, place-below, sum-at, sizes-small}
 use Rattle.book_calls.specs.Report.{reportVerdict}
 use Rattle.head.specs.Counted.{windowOf, marketCount}
 use Rattle.image.specs.Storing.{pricesOk}
 use Rattle.image.proofs.Walks.{Market, market}
-use Rattle.image.proofs.Ways.{is-accepted, is-refused}
 use Rattle.ledger.proofs.Ranges.{prices-is}
 use Rattle.planning.specs.declared.Left.the-variants.{Intervals, Refused}
 use Rattle.planning.specs.Left as Left

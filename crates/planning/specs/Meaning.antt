@@ -1,11 +1,11 @@
 -- What the number of intervals left means. Read this file first. `proofs/Brought` proves `Answered` and `Foretold`. Assumes nothing.
 --
 -- In words: begin with a book that is opened, or loaded from an image without entries and with no period marked, and play any list L of
--- calls. Then the question for a market and a price is answered, whatever L was: 10, 11
--- and 22 never occur, and only 21 and 43 may. Let n be the answer. Play any further calls K that bring the market's window exactly k
--- prices, all of them the price that was asked about. If k is n, the sum is above the threshold that the book had after L; if k is 1
--- or more but less than n, it isn't; and if n is 0, it isn't for any k from 1 to W. K may do anything besides: refused calls,
--- settings, reports, restarts, entries at which the region is marked, any prices of other markets.
+-- calls. Then the question for a market and a price is answered, whatever L was: 10, 11 and 22 never occur, and only 21 and 43 may. Let
+-- n be the answer. Play any further calls K that bring the market's window exactly k prices, all of them the price that was asked
+-- about. If k is n, the sum is above the threshold that the book had after L; if k is 1 or more but less than n, it isn't; and if n is
+-- 0, it isn't for any k from 1 to W. K may do anything besides: refused calls, settings, reports, restarts, entries at which the region
+-- is marked, any prices of other markets.
 use mathlib.Core.Path.{_≡_}
 use mathlib.Core.Bool.{Bool, true, false, not}
 use mathlib.Core.List.{List, [], _∷_}

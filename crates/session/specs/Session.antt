@@ -2,10 +2,11 @@
 -- call. `proofs/Theorem` proves `Demand-3`. Assumes nothing.
 --
 -- In words: a host opens a book by `guxhamole_open` with any settings over any ring, or loads one by `guxhamole_load` from an image of a
--- book without entries and with no period marked into any ring. If the answer's number is 0, then for every list L of calls (entries, threshold and limit settings, reports and restarts, with any arguments, refused ones too), each made by the
--- function of crates/capi on the book and ring that the call before left, the answers are exactly those of the ledger machine P:
--- number and place; an entry's count and table; a report's four numbers. A restart is a store and, where that is accepted, a load of
--- exactly the stored bytes into another ring; refused by either, the host goes on with the book and ring that it has.
+-- book without entries and with no period marked into any ring. If the answer's number is 0, then for every list L of calls (entries,
+-- threshold and limit settings, reports and restarts, with any arguments, refused ones too), each made by the function of crates/capi on
+-- the book and ring that the call before left, the answers are exactly those of the ledger machine P: number and place; an entry's count
+-- and table; a report's four numbers. A restart is a store and, where that is accepted, a load of exactly the stored bytes into another
+-- ring; refused by either, the host goes on with the book and ring that it has.
 --
 -- Of a function nothing is used but what its contract in crates/capi says: each line of `Meets` is that contract.
 use mathlib.Core.Path.{_≡_}

@@ -7,8 +7,9 @@ use mir.Facts.{toZ-ofZ}
 use borrow.Author.Tests.{eq-eqb, ne-eqb, not-true, not-false}
 use Rattle.pricing.specs.Holding.{limitsOk}
 use Rattle.book.specs.Record.{verdict, isAccepted}
+use Rattle.book.proofs.Ways.{is-accepted, is-refused}
 use Rattle.book_calls.specs.Setting.{thresholdVerdict}
-use Rattle.book_calls.proofs.Ways.{settingsOk, ringOk, open-20, open-11, open-threshold, open-19, open-0, refused-by, accepted-by}
+use Rattle.book_calls.proofs.Ways.{settingsOk, ringOk, open-20, open-11, open-threshold, open-19, open-0}
 use borrow.Author.Needs.{needs, sfits-of}
 use Rattle.book_calls.proofs.opening.open_verdict.Statement.{statement}
 use Rattle.book_calls.proofs.opening.open_verdict.Tie as tie
@@ -33,7 +34,7 @@ says c =
 
 taken : (c : tie.After-enum-told2)
     → isAccepted (thresholdVerdict (c .before .before .before .before .before .before .before .before .before .before .before .args .settings .threshold)) ≡ true
-taken c = accepted-by _ _ (says (c .before .before)) (c .enum-told2 .given .1)
+taken c = ap isAccepted (is-accepted _ _ (says (c .before .before)) (c .enum-told2 .given .1))
 
 limits-is : (c : tie.After-limits-ok)
     → let s = c .before .before .before .before .before .before .before .before .before .before .before .before .before .before .args .settings in
@@ -84,7 +85,7 @@ returns-4 : tie.Need-returns-4
 returns-4 c =
     let v = c .before .before in
     let d = v .before .before in
-    says v ∙ open-threshold _ _ (settled (d .before .before)) (sized d) (refused-by _ _ (says v) _ (c .enum-told .given .1))
+    says v ∙ open-threshold _ _ (settled (d .before .before)) (sized d) (is-refused _ _ (says v) _ (c .enum-told .given .1) .1)
 
 returns-5 : tie.Need-returns-5
 returns-5 c =

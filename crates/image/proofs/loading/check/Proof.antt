@@ -5,7 +5,8 @@ use Rattle.pricing.specs.Verdict.{Verdict, accepted}
 use Rattle.book.specs.Record.{isAccepted}
 use Rattle.image.specs.Loading.{headVerdict}
 use Rattle.image.proofs.Verdicts.{head-ok}
-use Rattle.image.proofs.Ways.{is-accepted, is-refused, head-ready, check-head, check-16, check-0}
+use Rattle.book.proofs.Ways.{is-accepted, is-refused}
+use Rattle.image.proofs.Ways.{head-ready, check-head, check-16, check-0}
 use borrow.Author.Needs.{needs}
 use Rattle.image.proofs.loading.check.Statement.{statement}
 use Rattle.image.proofs.loading.check.Tie as tie

@@ -5,7 +5,8 @@ use Rattle.pricing.specs.Verdict.{accepted}
 use Rattle.book.specs.Record.{isAccepted}
 use Rattle.image.specs.Loading.{headVerdict, ringOf}
 use Rattle.image.proofs.Verdicts.{head-ok}
-use Rattle.image.proofs.Ways.{is-accepted, is-refused, head-ready, load-head, load-11, load-16, load-0}
+use Rattle.book.proofs.Ways.{is-accepted, is-refused}
+use Rattle.image.proofs.Ways.{head-ready, load-head, load-11, load-16, load-0}
 use borrow.Author.Needs.{needs}
 use Rattle.image.proofs.loading.load_verdict.Statement.{statement}
 use Rattle.image.proofs.loading.load_verdict.Tie as tie

@@ -1,18 +1,19 @@
 -- `interval_records::any_order::records_verdict` meets its contract, by a law for each way out. Assumes nothing.
-use mathlib.Core.Path.{_≡_, _∙_}
+use mathlib.Core.Path.{_≡_, ap, _∙_}
 use mathlib.Core.Bool.{true}
 use borrow.Author.Needs.{needs}
 use Rattle.book.specs.Record.{marketsOf, isAccepted}
 use Rattle.interval_records.specs.Record.{headVerdict}
 use Rattle.interval_records.proofs.Heads.{head-is}
-use Rattle.interval_records.proofs.Verdicts.{is-accepted, is-refused, records-head, records-rest}
+use Rattle.book.proofs.Ways.{is-accepted, is-refused}
+use Rattle.interval_records.proofs.Verdicts.{records-head, records-rest}
 use Rattle.interval_records.proofs.any_order.records_verdict.Statement.{statement}
 use Rattle.interval_records.proofs.any_order.records_verdict.Tie as tie
 
 -- the head passed, so that it is there
 passed : (c : tie.After-enum-told2) → let a = c .before .before .before .before .args in
     isAccepted (headVerdict (a .regions) (marketsOf (a .services)) (a .bytes .now) (a .at)) ≡ true
-passed c = is-accepted _ _ (c .before .before .head-verdict .ensures) (c .enum-told2 .given .1)
+passed c = ap isAccepted (is-accepted _ _ (c .before .before .head-verdict .ensures) (c .enum-told2 .given .1))
 
 head-verdict-requires : tie.Need-head-verdict-requires
 head-verdict-requires c κs = search needs
@@ -23,7 +24,7 @@ enum-told c = search needs
 returns : tie.Need-returns
 returns c =
     let h = c .before .before .head-verdict in
-    h .ensures ∙ records-head _ _ _ _ (is-refused _ _ (h .ensures) _ (c .enum-told .given .1))
+    h .ensures ∙ records-head _ _ _ _ (is-refused _ _ (h .ensures) _ (c .enum-told .given .1) .1)
 
 enum-told-2 : tie.Need-enum-told-2
 enum-told-2 c = search needs

@@ -12,7 +12,8 @@ use Rattle.interval_records.specs.Layout.{regionLength}
 use Rattle.interval_records.specs.Record.{dueVerdict, recordPlace, regionAt}
 use Rattle.interval_records.specs.AnyOrder.{stray}
 use Rattle.interval_records.proofs.Wholes.{accepted-due}
-use Rattle.interval_records.proofs.Verdicts.{is-accepted, is-refused, region-due, region-42, region-0, stray-by}
+use Rattle.book.proofs.Ways.{is-accepted, is-refused}
+use Rattle.interval_records.proofs.Verdicts.{region-due, region-42, region-0, stray-by}
 use Rattle.interval_records.proofs.any_order.region_verdict.Statement.{statement}
 use Rattle.interval_records.proofs.any_order.region_verdict.Tie as tie
 
@@ -35,7 +36,7 @@ due c =
     c .due-verdict .ensures ∙ ap (dueVerdict 17 (markets s) (s .args .bytes .now)) (at-place (c .before))
 
 passed : (c : tie.After-enum-told2) → isAccepted (twofold (c .before .before .before .before .before)) ≡ true
-passed c = is-accepted _ _ (due (c .before .before)) (c .enum-told2 .given .1)
+passed c = ap isAccepted (is-accepted _ _ (due (c .before .before)) (c .enum-told2 .given .1))
 
 -- the record is there
 room : (c : tie.After-enum-told2) → let s = c .before .before .before .before .before in
@@ -73,7 +74,7 @@ enum-told c = search needs
 returns : tie.Need-returns
 returns c =
     let d = due (c .before .before) in
-    d ∙ region-due _ _ _ _ _ (is-refused _ _ d _ (c .enum-told .given .1))
+    d ∙ region-due _ _ _ _ _ (is-refused _ _ d _ (c .enum-told .given .1) .1)
 
 enum-told-2 : tie.Need-enum-told-2
 enum-told-2 c = search needs

@@ -1,6 +1,6 @@
 -- `interval_records::any_order::regions_verdict` meets its contract. The loop's invariant: the records passed are there, and the first refusal
 -- is that of the records still to go. Assumes nothing.
-use mathlib.Core.Path.{_≡_, _∙_}
+use mathlib.Core.Path.{_≡_, ap, _∙_}
 use mathlib.Core.Bool.{true}
 use Prim.Native.Nat.{ℕ, _-_, _≤_}
 use native.Mathlib.Omega.{arith}
@@ -11,7 +11,8 @@ use Rattle.book.specs.Record.{marketsOf, isAccepted}
 use Rattle.interval_records.specs.Record.{recordPlace, firstRefusal}
 use Rattle.interval_records.specs.AnyOrder.{regionVerdict}
 use Rattle.interval_records.proofs.AnyOrder.{region-is}
-use Rattle.interval_records.proofs.Verdicts.{is-accepted, is-refused, first-all, first-stop, first-step, first-done}
+use Rattle.book.proofs.Ways.{is-accepted, is-refused}
+use Rattle.interval_records.proofs.Verdicts.{first-all, first-stop, first-step, first-done}
 use Rattle.interval_records.proofs.any_order.regions_verdict.Statement.{statement}
 use Rattle.interval_records.proofs.any_order.regions_verdict.Tie as tie
 
@@ -29,7 +30,7 @@ verdicts s = let a = s .args in regionVerdict (a .regions) (marketsOf (a .servic
 
 passed : (c : tie.After-enum-told2 Inv-loop μ-loop) → let l = c .before .before .before .before in
     isAccepted (verdicts (l .before .before) (l .loop .k)) ≡ true
-passed c = is-accepted _ _ (c .before .before .region-verdict .ensures) (c .enum-told2 .given .1)
+passed c = ap isAccepted (is-accepted _ _ (c .before .before .region-verdict .ensures) (c .enum-told2 .given .1))
 
 loop-holds : tie.Need-loop-holds Inv-loop μ-loop
 loop-holds c = (omega arith, omega arith, first-all _ (verdicts (c .before)))
@@ -44,7 +45,7 @@ returns : tie.Need-returns Inv-loop μ-loop
 returns c =
     let v = c .before .before .region-verdict in
     let l = c .before .before .before .before in
-    let refused = is-refused _ _ (v .ensures) _ (c .enum-told .given .1) in
+    let refused = is-refused _ _ (v .ensures) _ (c .enum-told .given .1) .1 in
     v .ensures ∙ first-stop _ _ (verdicts (l .before .before)) (omega arith) refused ∙ l .loop .inv .2
 
 enum-told-2 : tie.Need-enum-told-2 Inv-loop μ-loop

@@ -1,19 +1,20 @@
 -- `interval_records::record::head_verdict` meets its contract, by a law for each way out. Assumes nothing.
-use mathlib.Core.Path.{_≡_, sym, _∙_}
+use mathlib.Core.Path.{_≡_, sym, ap, _∙_}
 use mathlib.Core.Bool.{true}
 use native.Mathlib.Omega.{arith}
 use borrow.Author.Needs.{needs}
 use Rattle.book.specs.Record.{marketsOf, isAccepted}
 use Rattle.interval_records.specs.Record.{dueVerdict}
 use Rattle.interval_records.proofs.Wholes.{Due, accepted-due}
-use Rattle.interval_records.proofs.Verdicts.{is-accepted, is-refused, head-due, head-41, head-0}
+use Rattle.book.proofs.Ways.{is-accepted, is-refused}
+use Rattle.interval_records.proofs.Verdicts.{head-due, head-41, head-0}
 use Rattle.interval_records.proofs.record.head_verdict.Statement.{statement}
 use Rattle.interval_records.proofs.record.head_verdict.Tie as tie
 
 -- the record is a head, and it is there
 passed : (c : tie.After-enum-told2) → let a = c .before .before .before .before .args in
     isAccepted (dueVerdict 16 (marketsOf (a .services)) (a .bytes .now) (a .at)) ≡ true
-passed c = is-accepted _ _ (c .before .before .due-verdict .ensures) (c .enum-told2 .given .1)
+passed c = ap isAccepted (is-accepted _ _ (c .before .before .due-verdict .ensures) (c .enum-told2 .given .1))
 
 head : (c : tie.After-enum-told2) → let a = c .before .before .before .before .args in
     Due 16 (marketsOf (a .services)) (a .bytes .now) (a .at)
@@ -28,7 +29,7 @@ enum-told c = search needs
 returns : tie.Need-returns
 returns c =
     let d = c .before .before .due-verdict in
-    d .ensures ∙ head-due _ _ _ _ (is-refused _ _ (d .ensures) _ (c .enum-told .given .1))
+    d .ensures ∙ head-due _ _ _ _ (is-refused _ _ (d .ensures) _ (c .enum-told .given .1) .1)
 
 enum-told-2 : tie.Need-enum-told-2
 enum-told-2 c = search needs
