@@ -19,7 +19,7 @@ pub struct Settings {
     pub first: u16,
     /// Of each region a lower region linked to it, or 255 for none; region 0 and places from R up hold 255.
     pub parents: [u8; 8],
-    /// Cents, 1..100,000,000,000.
+    /// Cents, 10,000..100,000,000,000, a multiple of 10,000. Only an image may hold another one, from 1 on.
     pub threshold: i64,
     /// Cents, 1..10,000,000.
     pub cap: i32,
@@ -88,7 +88,7 @@ pub struct Report {
 pub struct Book(raw::Book);
 
 impl Book {
-    /// Opens a book over a ring of R × M × W places, which is zeroed: 20, 11, 18, 19.
+    /// Opens a book over a ring of R × M × W places, which is zeroed: 20, 11, 18, 44, 19.
     ///
     /// ```
     /// use guxhamole::{Book, Refusal, Settings};
@@ -97,6 +97,10 @@ impl Book {
     /// let book = Book::open(Settings::default(), &mut ring)?;
     /// assert_eq!((book.entries(), book.threshold()), (0, 182_360_000));
     /// assert_eq!(Book::open(Settings::default(), &mut ring[1..]), Err(Refusal::Length));
+    ///
+    /// // A digit too few: thresholds are whole hundreds of dollars.
+    /// let slip = Settings { threshold: 18_236_000, ..Settings::default() };
+    /// assert_eq!(Book::open(slip, &mut ring), Err(Refusal::Hundreds));
     /// # Ok::<(), Refusal>(())
     /// ```
     pub fn open(settings: Settings, ring: &mut [i32]) -> Result<Book, Refusal> {
@@ -153,7 +157,7 @@ impl Book {
         Ok(entered.count)
     }
 
-    /// Sets the threshold from the next entry on: 10, 18.
+    /// Sets the threshold from the next entry on, a multiple of 10,000 cents: 10, 18, 44.
     ///
     /// ```
     /// # use guxhamole::{Book, Refusal, Settings};
@@ -161,6 +165,7 @@ impl Book {
     /// # let mut book = Book::open(Settings::default(), &mut ring)?;
     /// book.set_threshold(139_810_000)?;
     /// assert_eq!(book.set_threshold(0), Err(Refusal::Threshold));
+    /// assert_eq!(book.set_threshold(13_981_000), Err(Refusal::Hundreds));
     /// assert_eq!(book.threshold(), 139_810_000);
     /// # Ok::<(), Refusal>(())
     /// ```
@@ -262,12 +267,24 @@ impl Book {
         Ok(stored.length as usize)
     }
 
-    /// Loads an image, exactly its bytes, into a ring of R × M × W places: 24, 25, 26, 27, 11, 16.
+    /// Loads an image, exactly its bytes, into a ring of R × M × W places: 24, 25, 26, 27, 11, 16. The threshold that it holds, any from
+    /// 1 to 100,000,000,000, stays until the next setting.
     ///
     /// ```
-    /// use guxhamole::{Book, Refusal};
+    /// use guxhamole::{Book, Refusal, Settings};
     ///
     /// assert_eq!(Book::load(&[0; 200], &mut [0; 4]), Err(Refusal::ImageLength));
+    ///
+    /// // The image of a book at 950 dollars, from before thresholds were whole hundreds.
+    /// let settings = Settings { regions: 1, services: 0, window: 1, parents: [255; 8], ..Settings::default() };
+    /// let (mut ring, mut image) = ([0], [0; 148]);
+    /// Book::open(settings, &mut ring)?.store(&ring, &mut image)?;
+    /// image[28..36].copy_from_slice(&95_000i64.to_le_bytes());
+    ///
+    /// let mut book = Book::load(&image, &mut ring)?;
+    /// assert_eq!(book.set_threshold(95_000), Err(Refusal::Hundreds));
+    /// assert_eq!(book.threshold(), 95_000);
+    /// # Ok::<(), Refusal>(())
     /// ```
     pub fn load(image: &[u8], ring: &mut [i32]) -> Result<Book, Refusal> {
         Book::kept(raw::load(image, ring))

@@ -8,8 +8,9 @@
 //!
 //! # What the host must do
 //!
-//! The theorem speaks of lists of calls: whatever they are and however many, every answer is the ledger machine's (README,
-//! "How to read the theorem"). A host has that theorem if it
+//! The theorem speaks of lists of calls that begin with an opening, or with the load of an image of a book without entries and with no
+//! period marked: whatever they are and however many, every answer is the ledger machine's (README, "How to read the theorem"). A host
+//! has that theorem if it
 //!
 //! - hands each call the book that the call before left: it keeps one [`Book`], from [`Book::open`] or [`Book::load`], and calls
 //!   its methods; it neither goes back to an older copy nor puts a book together from bytes or fields;

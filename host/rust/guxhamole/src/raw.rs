@@ -294,13 +294,13 @@ mod face {
 // borrow checker keeps what is written apart from everything else that is lent. Any contents and lengths are allowed, books of
 // any fields too, and no function keeps a pointer.
 
-/// "Open: 20 a setting; 11 ring length; 18 threshold; 19 cap or floor."
+/// "Open: 20 a setting; 11 ring length; 18 threshold; 19 cap or floor", 44 "directly after 18".
 pub fn open(settings: Settings, ring: &mut [i32]) -> Kept {
     // SAFETY: the slices are as said above.
     unsafe { face::guxhamole_open(settings, ring.as_mut_ptr(), ring.len()) }
 }
 
-/// "Settings: 10; 18 or 19."
+/// "Settings: 10; 18 or 19", 44 "directly after 18".
 pub fn set_threshold(book: Book, threshold: i64) -> Kept {
     // SAFETY: numbers alone go in and out; any are allowed.
     unsafe { face::guxhamole_set_threshold(book, threshold) }

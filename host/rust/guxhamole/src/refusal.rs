@@ -32,7 +32,7 @@ pub enum Refusal {
     Price(usize),
     /// 17: the factor of a region that has a parent is out of range; the region.
     Factor(usize),
-    /// 18: the threshold.
+    /// 18: the threshold is out of range.
     Threshold,
     /// 19: the cap or the floor.
     Limits,
@@ -68,6 +68,9 @@ pub enum Refusal {
     RecordRegion,
     /// 43: the price asked about is out of its market's range.
     PlannedPrice,
+    /// 44: the threshold of an opening or a setting is within its range, but no multiple of 10,000 cents, a hundred dollars. An image may
+    /// hold such a one.
+    Hundreds,
     /// A number that this crate doesn't know: the archive is a later one ([`crate::abi`]).
     Other(u32),
 }
@@ -103,6 +106,7 @@ impl Refusal {
             41 => Refusal::RecordKind,
             42 => Refusal::RecordRegion,
             43 => Refusal::PlannedPrice,
+            44 => Refusal::Hundreds,
             _ => Refusal::Other(number),
         }
     }
@@ -163,6 +167,7 @@ impl Refusal {
             ),
             Refusal::RecordRegion => (42, "a record of a region from R up or given before"),
             Refusal::PlannedPrice => (43, "a price asked about, out of its market's range"),
+            Refusal::Hundreds => (44, "a threshold that is no multiple of 10,000 cents"),
             Refusal::Other(number) => (number, "a refusal of a later archive"),
         }
     }
@@ -192,7 +197,7 @@ mod tests {
             assert_eq!(refusal.number(), number);
             let placed = (15..=17).contains(&number);
             assert_eq!(refusal.place(), placed.then_some(7));
-            let known = [10..=27, 30..=33, 40..=43];
+            let known = [10..=27, 30..=33, 40..=44];
             let known = known.iter().any(|numbers| numbers.contains(&number));
             assert_eq!(refusal == Refusal::Other(number), !known);
         }
