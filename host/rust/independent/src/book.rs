@@ -54,7 +54,7 @@ pub const FAULTS: [&str; 20] = [
 const MOST_SUM: i64 = 20_160_000_000;
 
 impl Book {
-    /// "Open: 20 a setting; 11 ring length; 18 threshold; 19 cap or floor." The ring is "zeroed by opening".
+    /// "Open: 20 a setting; 11 ring length; 18 threshold; 19 cap or floor", 44 "directly after 18". The ring is "zeroed by opening".
     pub fn open(opening: &Opening, ring: &mut [i32]) -> Result<Book, Refusal> {
         let ledger = Ledger::open(opening, ring.len())?;
         ring.fill(0);
@@ -222,10 +222,10 @@ impl Book {
         }
     }
 
-    /// "Settings: 10; 18 or 19."
+    /// "Settings: 10; 18 or 19", 44 "directly after 18".
     pub fn set_threshold(&mut self, threshold: i64) -> Result<(), Refusal> {
         self.sound()?;
-        unless(threshold_allowed(threshold.into()), 18)?;
+        threshold_refusal(threshold)?;
         self.threshold = threshold;
         Ok(())
     }

@@ -96,6 +96,45 @@ impl Fields {
         }
     }
 
+    /// The image of a book of these settings "without entries and with no period marked" (request 2026-06 of document 02).
+    pub fn blank(settings: &Opening) -> Fields {
+        Fields {
+            regions: settings.regions as u8,
+            services: settings.services as u8,
+            window: settings.window as u16,
+            halves: settings.halves as u8,
+            parents: settings.parents,
+            entries: 0,
+            position: settings.first as u16,
+            threshold: settings.threshold,
+            cap: settings.cap,
+            floor: settings.floor,
+            counts: [0; 8],
+            periods: [0; 88],
+            prices: Vec::new(),
+        }
+    }
+
+    /// The settings that stand "for the opening's" where the book has no entries and no period marked. Position (first position + t)
+    /// mod D of the next entry, t = 0, is the first position.
+    pub fn settings(&self) -> Option<Opening> {
+        let marked = self.periods.iter().any(|&period| period != 0);
+        if self.entries != 0 || marked {
+            return None;
+        }
+        Some(Opening {
+            regions: self.regions.into(),
+            services: self.services.into(),
+            window: self.window.into(),
+            halves: self.halves.into(),
+            first: self.position.into(),
+            parents: self.parents,
+            threshold: self.threshold,
+            cap: self.cap,
+            floor: self.floor,
+        })
+    }
+
     /// "a field in bytes 6 to 147 outside what Open or 10 allows, or a zero byte, unused count or unused period not
     /// zero": the first such field's name. The two zeros and byte 11 are tested by `head_fault`.
     fn fault(&self) -> Option<&'static str> {

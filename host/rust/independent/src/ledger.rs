@@ -28,7 +28,7 @@ pub(crate) enum Event {
     Limits(i32, i32),
 }
 
-/// Where the history begins: at an opening, or at an image (of a history that is no longer known).
+/// Where the history begins: at an opening, or at an image (without a history, or of one that is no longer known).
 #[derive(Clone, Debug, PartialEq, Eq)]
 pub(crate) struct Start {
     pub settings: Settings,
@@ -61,7 +61,7 @@ pub struct Ledger {
 }
 
 impl Ledger {
-    /// "Open: 20 a setting; 11 ring length; 18 threshold; 19 cap or floor."
+    /// "Open: 20 a setting; 11 ring length; 18 threshold; 19 cap or floor", 44 "directly after 18".
     pub fn open(opening: &Opening, ring_length: usize) -> Result<Ledger, Refusal> {
         let setting_allowed = regions_allowed(opening.regions)
             && services_allowed(opening.services)
@@ -70,16 +70,23 @@ impl Ledger {
             && position_allowed(opening.first, opening.halves)
             && parents_allowed(&opening.parents, opening.regions);
         unless(setting_allowed, 20)?;
-        let shape = Shape {
-            regions: opening.regions as usize,
-            services: opening.services as usize,
-            window: opening.window as usize,
-            halves: opening.halves as usize,
-            parents: opening.parents,
-        };
-        unless(ring_length == shape.ring(), 11)?;
-        unless(threshold_allowed(opening.threshold.into()), 18)?;
+        unless(ring_length == opening.shape().ring(), 11)?;
+        threshold_refusal(opening.threshold)?;
         unless(limits_allowed(opening.cap, opening.floor), 19)?;
+        Ok(Ledger::opened(opening))
+    }
+
+    /// Request 2026-06 of document 02: "its list may begin with such an image of a book without entries and with no period marked, its
+    /// settings standing for the opening's". Loaded into a ring of a length; `None` is an image of another book, with which no list begins.
+    pub fn begin(bytes: &[u8], ring_length: usize) -> Result<Option<Ledger>, Refusal> {
+        image::first_refusal(bytes, Some(ring_length))?;
+        let fields = image::Fields::read(bytes);
+        Ok(fields.settings().map(|settings| Ledger::opened(&settings)))
+    }
+
+    /// "It keeps the settings of opening": these, as yet with nothing accepted.
+    fn opened(opening: &Opening) -> Ledger {
+        let shape = opening.shape();
         let start = Start {
             settings: Settings {
                 threshold: opening.threshold,
@@ -91,10 +98,10 @@ impl Ledger {
             counted: vec![Vec::new(); shape.prices()],
             administered: vec![false; shape.prices()],
         };
-        Ok(Ledger::begin(shape, start))
+        Ledger::starting(shape, start)
     }
 
-    pub(crate) fn begin(shape: Shape, start: Start) -> Ledger {
+    fn starting(shape: Shape, start: Start) -> Ledger {
         Ledger {
             shape,
             start,
@@ -239,9 +246,9 @@ impl Ledger {
         )
     }
 
-    /// "Settings: 10; 18 or 19."
+    /// "Settings: 10; 18 or 19", 44 "directly after 18".
     pub fn set_threshold(&mut self, threshold: i64) -> Result<(), Refusal> {
-        unless(threshold_allowed(threshold.into()), 18)?;
+        threshold_refusal(threshold)?;
         self.note(Event::Threshold(threshold));
         Ok(())
     }
@@ -337,7 +344,7 @@ impl Ledger {
             counted,
             administered,
         };
-        Ok(Ledger::begin(shape, start))
+        Ok(Ledger::starting(shape, start))
     }
 
     /// The history sorted into entries and the settings at each, and at the next.

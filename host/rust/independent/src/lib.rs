@@ -1,8 +1,8 @@
 //! Document 01 written a second time, from the paper alone, and a player of docs/RECORDS.md over it. It shares no
 //! definition and no code with the proved book: the ledger keeps the whole history and recomputes every sum, count,
 //! position and period from it, and limits go over every route one by one. Beside it stand a cache of what it recomputes,
-//! for windows of thousands of prices, and the book as a host keeps it, with its ring; and document 02's interval records and
-//! intervals left.
+//! for windows of thousands of prices, and the book as a host keeps it, with its ring; and document 02's interval records,
+//! intervals left, and thresholds in whole hundreds.
 //! Quotations are document 01's unless a file says otherwise.
 
 pub mod amount;

@@ -49,6 +49,19 @@ pub struct Opening {
     pub floor: i32,
 }
 
+impl Opening {
+    /// The shape of an opening whose settings are within their limits.
+    pub fn shape(&self) -> Shape {
+        Shape {
+            regions: self.regions as usize,
+            services: self.services as usize,
+            window: self.window as usize,
+            halves: self.halves as usize,
+            parents: self.parents,
+        }
+    }
+}
+
 /// The settings that never change: R, S, W, H and the parents, all within their limits.
 #[derive(Clone, Copy, Debug, PartialEq, Eq)]
 pub struct Shape {
@@ -146,6 +159,18 @@ pub fn parents_allowed(parents: &[u8; 8], regions: u32) -> bool {
 /// "threshold 1..100,000,000,000"
 pub fn threshold_allowed(threshold: i128) -> bool {
     (1..=100_000_000_000).contains(&threshold)
+}
+
+/// "only multiples of 10,000 cents" (request 2026-06 of document 02).
+pub fn in_hundreds(threshold: i64) -> bool {
+    threshold % 10_000 == 0
+}
+
+/// What an opening and a setting take, but not rule 10 and no image: "18 threshold", and "(44: a threshold within range but no multiple
+/// of 10,000; directly after 18.)"
+pub fn threshold_refusal(threshold: i64) -> Result<(), Refusal> {
+    unless(threshold_allowed(threshold.into()), 18)?;
+    unless(in_hundreds(threshold), 44)
 }
 
 /// "cap 1..10,000,000"
