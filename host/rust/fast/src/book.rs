@@ -94,7 +94,7 @@ impl Book {
         marks: [0; REGIONS * MARKETS],
     };
 
-    /// "Open: 20 a setting; 11 ring length; 18 threshold; 19 cap or floor." The ring is zeroed.
+    /// "Open: 20 a setting; 11 ring length; 18 threshold; 19 cap or floor", 44 "directly after 18". The ring is zeroed.
     pub fn open(opening: &Opening, ring: &mut [i32]) -> Result<Book, Refusal> {
         let book = Book {
             regions: opening.regions,
@@ -110,16 +110,16 @@ impl Book {
         };
         unless(book.shape_valid(), 20)?;
         unless(ring.len() == book.ring_length(), 11)?;
-        unless(threshold_valid(book.threshold), 18)?;
+        threshold_settable(book.threshold)?;
         unless(limits_valid(book.cap, book.floor), 19)?;
         ring.fill(0);
         Ok(book)
     }
 
-    /// "Settings: 10; 18 or 19."
+    /// "Settings: 10; 18 or 19", 44 "directly after 18".
     pub fn set_threshold(&mut self, threshold: i64) -> Result<(), Refusal> {
         unless(self.valid(), 10)?;
-        unless(threshold_valid(threshold), 18)?;
+        threshold_settable(threshold)?;
         self.threshold = threshold;
         Ok(())
     }
@@ -247,6 +247,12 @@ impl Book {
 /// "threshold 1..100,000,000,000"
 fn threshold_valid(threshold: i64) -> bool {
     (1..=100_000_000_000).contains(&threshold)
+}
+
+/// 18, then "44: a threshold within range but no multiple of 10,000": of what is opened with or set, not of what a book may hold.
+fn threshold_settable(threshold: i64) -> Result<(), Refusal> {
+    unless(threshold_valid(threshold), 18)?;
+    unless(threshold as u64 % 10_000 == 0, 44)
 }
 
 /// "cap 1..10,000,000; floor −10,000,000..−1"

@@ -123,7 +123,7 @@ fn lists() {
     }
     let met: [(u16, &[u32]); 5] = [
         (65, &[0, 11, 13, 14, 15, 16, 17]),
-        (66, &[0, 18]),
+        (66, &[0, 18, 44]),
         (67, &[0, 19]),
         (68, &[0, 21]),
         (69, &[0, 11, 23]),
@@ -168,7 +168,7 @@ fn openings() {
             "seed {seed}"
         );
     }
-    for number in [0, 11, 18, 19, 20] {
+    for number in [0, 11, 18, 19, 20, 44] {
         let times = seen.get(&(64, number)).copied().unwrap_or(0);
         assert!(times >= 30, "{number}: met {times} times");
     }

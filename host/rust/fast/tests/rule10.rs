@@ -10,7 +10,7 @@ const OPENING: Opening = Opening {
     halves: 1,
     first: 0,
     parents: [255, 0, 255, 255, 255, 255, 255, 255],
-    threshold: 95_000,
+    threshold: 90_000,
     cap: 60_000,
     floor: -60_000,
 };
@@ -133,6 +133,52 @@ fn allowed() {
     assert_eq!(enter(&mut book, &mut [0; 8], 10_000_000), Err(12));
 }
 
+/// Thresholds, and what an opening and a setting answer.
+const THRESHOLDS: [(i64, u32); 15] = [
+    (-10_000, 18),
+    (-1, 18),
+    (0, 18),
+    (1, 44),
+    (9_999, 44),
+    (10_000, 0),
+    (10_001, 44),
+    (95_000, 44),
+    (100_000, 0),
+    (139_810_000, 0),
+    (99_999_990_000, 0),
+    (99_999_999_999, 44),
+    (100_000_000_000, 0),
+    (100_000_000_001, 18),
+    (100_000_010_000, 18),
+];
+
+/// "44: a threshold within range but no multiple of 10,000; directly after 18", before 19; rule 10 allows what 44 refuses.
+#[test]
+fn thresholds() {
+    let number = |refused: Option<fast::Refusal>| refused.map_or(0, |refusal| refusal.number);
+    for (threshold, expected) in THRESHOLDS {
+        let opening = Opening {
+            threshold,
+            ..OPENING
+        };
+        let mut ring = [77; 8];
+        let opened = Book::open(&opening, &mut ring);
+        assert_eq!(number(opened.err()), expected, "{threshold}");
+        assert_eq!(ring, [if expected == 0 { 0 } else { 77 }; 8]);
+        let no_cap = Opening { cap: 0, ..opening };
+        let first = if expected == 0 { 19 } else { expected };
+        assert_eq!(number(Book::open(&no_cap, &mut ring).err()), first);
+        assert_eq!(number(Book::open(&no_cap, &mut ring[1..]).err()), 11);
+
+        let (mut book, _) = sound();
+        let set = book.set_threshold(threshold);
+        assert_eq!(number(set.err()), expected, "{threshold}");
+        assert_eq!(book.threshold == threshold, expected == 0);
+        book.threshold = threshold;
+        assert_eq!(book.valid(), expected != 18, "{threshold}");
+    }
+}
+
 /// 22: a counted price out of range, or a total that isn't its sum; then 23.
 #[test]
 fn spoilt_rings() {
@@ -165,8 +211,8 @@ fn questions() {
         left.map_err(|refusal| refusal.number)
     };
     let beyond = 10_000_001;
-    assert_eq!(ask(&book, &ring, 0, 0, 47_501), Ok(2));
-    assert_eq!(ask(&book, &ring, 0, 0, 47_500), Ok(0));
+    assert_eq!(ask(&book, &ring, 0, 0, 45_001), Ok(2));
+    assert_eq!(ask(&book, &ring, 0, 0, 45_000), Ok(0));
     assert_eq!(ask(&book, &ring[..7], 2, 0, beyond), Err(11));
     let mut spoilt = ring;
     spoilt[7] = 401;

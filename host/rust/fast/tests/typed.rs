@@ -1,8 +1,9 @@
-//! The fast book's typed calls against the ledger of `independent`, on lists of calls from a seed: every answer and table, and after
-//! a refusal the book and its ring as they were. A restart is a store and a load into another ring.
+//! The fast book's typed calls against the ledger of `independent`, on lists of calls from a seed, begun with an opening or an image:
+//! every answer and table, and after a refusal the book and its ring as they were. A restart is a store and a load into another ring.
 
 use fast::{Book, Refusal};
-use generator::{calls, Random};
+use generator::{calls, images, Random};
+use independent::image::Fields;
 use independent::{Answer, Call, Ledger, Opening, Report, Values};
 use std::collections::BTreeMap;
 
@@ -40,6 +41,13 @@ impl Host {
     fn open(opening: &Opening) -> Host {
         let mut ring = vec![77; calls::ring_length(opening)];
         let book = Book::open(&opening_of(opening), &mut ring).expect("a valid opening");
+        assert!(ring.iter().all(|&price| price == 0));
+        Host { book, ring }
+    }
+
+    fn load(settings: &Opening, image: &[u8]) -> Host {
+        let mut ring = vec![77; calls::ring_length(settings)];
+        let book = Book::load(image, &mut ring).expect("a valid image");
         assert!(ring.iter().all(|&price| price == 0));
         Host { book, ring }
     }
@@ -118,15 +126,26 @@ fn kind(call: &Call) -> &'static str {
     }
 }
 
+/// A book with the ledger beside it, opened, or from an image of any threshold.
+fn begun(random: &mut Random) -> (Host, Ledger) {
+    if random.chance(70) {
+        let opening = calls::opening(random);
+        let ledger = Ledger::open(&opening, calls::ring_length(&opening));
+        return (Host::open(&opening), ledger.expect("a valid opening"));
+    }
+    let settings = images::settings(random);
+    let image = Fields::blank(&settings).bytes();
+    let ledger = Ledger::begin(&image, calls::ring_length(&settings));
+    let ledger = ledger.expect("a valid image").expect("no entries");
+    (Host::load(&settings, &image), ledger)
+}
+
 #[test]
 fn lists() {
     let mut met: BTreeMap<(&str, u32), usize> = BTreeMap::new();
     for seed in 0..900 {
         let mut random = Random::new(0x3000_0000 + seed);
-        let opening = calls::opening(&mut random);
-        let mut host = Host::open(&opening);
-        let ring = calls::ring_length(&opening);
-        let mut ledger = Ledger::open(&opening, ring).expect("a valid opening");
+        let (mut host, mut ledger) = begun(&mut random);
         for _ in 0..40 {
             let call = calls::call(&mut random, &ledger);
             let before = host.clone();
@@ -138,7 +157,7 @@ fn lists() {
     }
     let expected: [(&str, &[u32]); 5] = [
         ("entry", &[0, 11, 13, 14, 15, 16, 17]),
-        ("threshold", &[0, 18]),
+        ("threshold", &[0, 18, 44]),
         ("limits", &[0, 19]),
         ("report", &[0, 21]),
         ("restart", &[0, 11, 23]),

@@ -29,14 +29,40 @@ pub fn limits(random: &mut Random) -> (i32, i32) {
     (cap, floor)
 }
 
-/// A threshold that windows of a few prices pass often, or a bound of its range.
+/// The least threshold, of which every other one is a multiple; only an image may hold others.
+const HUNDRED: i64 = 10_000;
+
+/// The highest threshold.
+const HIGHEST: i64 = 100_000_000_000;
+
+/// A threshold to open with, that windows of a few prices pass often, or a bound of its range.
 fn threshold(random: &mut Random, cap: i32) -> i64 {
-    let cap = i64::from(cap);
     match random.below(10) {
-        0 => 1,
-        1 => 100_000_000_000,
+        0 => HUNDRED,
+        1 => HIGHEST,
+        2 => 9 * HUNDRED,
+        _ => HUNDRED * random.between(1, 1 + 3 * i64::from(cap) / HUNDRED),
+    }
+}
+
+/// A threshold that an image may hold, likewise.
+pub fn held_threshold(random: &mut Random, cap: i32) -> i64 {
+    match random.below(10) {
+        0 => random.pick(&[1, 2, HUNDRED - 1]),
+        1 => random.pick(&[HIGHEST - 1, HIGHEST - HUNDRED, HIGHEST]),
         2 => 95_000,
-        _ => random.between(1, 3 * cap),
+        3 | 4 => threshold(random, cap),
+        _ => random.between(1, 3 * i64::from(cap)),
+    }
+}
+
+/// A keying slip: a threshold beside a multiple, half a multiple from it, or a digit too few or too many.
+fn slip(random: &mut Random, threshold: i64) -> i64 {
+    match random.below(6) {
+        0 | 1 => threshold + random.pick(&[-1, 1]),
+        2 | 3 => threshold + random.pick(&[-5_000, 5_000]),
+        4 => threshold / 10,
+        _ => threshold + random.pick(&[-1_000, 1_000, 100, 2_500, 9_000]),
     }
 }
 
@@ -114,7 +140,7 @@ pub fn damaged_opening(random: &mut Random) -> (Opening, usize) {
                 let bytes = [0, region as u8, (region + 1) as u8, 7, 8, 254, NO_PARENT];
                 opening.parents[region] = random.pick(&bytes);
             }
-            6 => opening.threshold = any_threshold(random),
+            6 => opening.threshold = wrong_threshold(random, opening.threshold),
             7 => (opening.cap, opening.floor) = any_limits(random),
             _ => {
                 ring = random.pick(&[0, 1, ring.wrapping_add(1), ring.wrapping_sub(1), usize::MAX])
@@ -127,11 +153,11 @@ pub fn damaged_opening(random: &mut Random) -> (Opening, usize) {
     (opening, ring)
 }
 
-/// An opening whose threshold and limits alone are at or past a bound.
+/// An opening whose threshold and limits alone are at or past a bound, or whose threshold is a slip.
 pub fn damaged_settings(random: &mut Random) -> Opening {
     let mut opening = opening(random);
-    if random.chance(60) {
-        opening.threshold = any_threshold(random);
+    if random.chance(70) {
+        opening.threshold = wrong_threshold(random, opening.threshold);
     }
     if random.chance(60) {
         (opening.cap, opening.floor) = any_limits(random);
@@ -139,9 +165,21 @@ pub fn damaged_settings(random: &mut Random) -> Opening {
     opening
 }
 
+/// A threshold at or past every bound, multiples and others.
 fn any_threshold(random: &mut Random) -> i64 {
-    let most = 100_000_000_000;
-    random.pick(&[i64::MIN, -1, 0, 1, 2, most - 1, most, most + 1, i64::MAX])
+    match random.below(3) {
+        0 => random.pick(&[i64::MIN, -95_000, -HUNDRED, -1, 0, i64::MAX]),
+        1 => random.pick(&[1, 5_000, HUNDRED - 1, HUNDRED, HUNDRED + 1]),
+        _ => HIGHEST + random.pick(&[-HUNDRED, -1, 0, 1, 5_000, HUNDRED]),
+    }
+}
+
+/// A threshold that is mostly refused: by a slip, or around the bounds.
+fn wrong_threshold(random: &mut Random, threshold: i64) -> i64 {
+    match random.chance(40) {
+        true => slip(random, threshold),
+        false => any_threshold(random),
+    }
 }
 
 fn any_limits(random: &mut Random) -> (i32, i32) {
@@ -151,19 +189,27 @@ fn any_limits(random: &mut Random) -> (i32, i32) {
     (cap, floor)
 }
 
-/// A valid price: around the limits, around the threshold's share of a window, the bounds, or anything between.
-fn price(random: &mut Random, ledger: &Ledger, market: usize) -> i32 {
+/// What a market's sum lacks to be the threshold after the next entry: with that price it is met, with a cent more passed.
+fn missing(ledger: &Ledger, region: usize, market: usize, threshold: i64) -> i64 {
+    let counted = ledger.counted(region, market);
+    let leaves = usize::from(counted.len() == ledger.shape().window);
+    let staying: i64 = counted[leaves..].iter().map(|&p| i64::from(p)).sum();
+    threshold - staying
+}
+
+/// A valid price: around the limits, around the threshold's share of a window and what a sum lacks, the bounds, or anything between.
+fn price(random: &mut Random, ledger: &Ledger, region: usize, market: usize) -> i32 {
     let settings = ledger.settings();
     let share = settings.threshold / ledger.shape().window as i64;
     let most = 10_000_000i64;
     let (cap, floor) = (i64::from(settings.cap), i64::from(settings.floor));
     let nearby = random.between(-1, 1);
-    let price = match random.below(12) {
+    let price = match random.below(13) {
         0 => nearby,
         1 | 2 => cap + nearby,
         3 | 4 => floor + nearby,
         5 | 6 => share + nearby,
-        7 => settings.threshold + nearby,
+        7 | 12 => missing(ledger, region, market, settings.threshold) + nearby,
         8 => most + nearby,
         9 => -most + nearby,
         10 => random.between(-most, most),
@@ -222,7 +268,7 @@ impl Energy {
         let settings = ledger.settings();
         let most = 10_000_000;
         let price = match self {
-            Energy::Any => return price(random, ledger, 0),
+            Energy::Any => return price(random, ledger, region, 0),
             Energy::OneHigh(one) if one != region => random.between(-1, 0),
             Energy::Low => i64::from(settings.floor) * random.pick(&[1, 8, 129, 129]),
             _ => random
@@ -243,7 +289,7 @@ fn prices(random: &mut Random, ledger: &Ledger, marks: &[u8], energy: Energy) ->
             } else if market == 0 {
                 energy.price(random, ledger, region)
             } else {
-                price(random, ledger, market)
+                price(random, ledger, region, market)
             });
         }
     }
@@ -448,19 +494,21 @@ pub fn any_report(random: &mut Random, ledger: &Ledger) -> Call {
     }
 }
 
-/// A threshold around a market's sum, as the report gives it, or around the bounds.
+/// A threshold around a market's sum, as the report gives it: mostly the next multiple below it or above it, else a slip, the sum
+/// itself, or one around the bounds.
 pub fn next_threshold(random: &mut Random, ledger: &Ledger) -> i64 {
     let shape = ledger.shape();
     let region = random.below(shape.regions) as u32;
     let market = random.below(shape.markets()) as u32;
-    match random.below(10) {
+    let report = ledger.report(region, market);
+    let sum = report.map(|report| report.sum).unwrap_or(1);
+    let multiple = HUNDRED * (sum.div_euclid(HUNDRED) + random.between(0, 1));
+    match random.below(12) {
         0 => any_threshold(random),
-        1 => random.between(1, 200_000),
-        _ => {
-            let report = ledger.report(region, market);
-            let sum = report.map(|report| report.sum).unwrap_or(1);
-            sum + random.between(-1, 1)
-        }
+        1 | 2 => slip(random, multiple),
+        3 => sum + random.between(-1, 1),
+        4 => HUNDRED * random.between(1, 20),
+        _ => multiple,
     }
 }
 

@@ -1,21 +1,47 @@
-//! Images: valid ones and damaged ones.
+//! Images: valid ones and damaged ones; of books without entries, with which a list may begin, and of others.
 
 use crate::calls;
 use crate::random::Random;
 use independent::image::{Fields, HEAD};
 use independent::rules::NO_PARENT;
+use independent::{Ledger, Opening};
+
+/// The settings of a book without entries and with no period marked; an image of them loads, whatever their threshold.
+pub fn settings(random: &mut Random) -> Opening {
+    let mut settings = calls::opening(random);
+    settings.threshold = calls::held_threshold(random, settings.cap);
+    settings
+}
+
+/// An image of such a book: a list may begin with it.
+pub fn blank(random: &mut Random) -> Vec<u8> {
+    Fields::blank(&settings(random)).bytes()
+}
+
+/// A ledger with which a list begins: opened, or from an image.
+pub fn begun(random: &mut Random) -> Ledger {
+    if random.chance(60) {
+        return calls::opened(random);
+    }
+    let settings = settings(random);
+    let image = Fields::blank(&settings).bytes();
+    match Ledger::begin(&image, calls::ring_length(&settings)) {
+        Ok(Some(ledger)) => ledger,
+        refused => panic!("{settings:?}: {refused:?}"),
+    }
+}
 
 /// An image that a list of calls leads to.
 pub fn listed(random: &mut Random) -> Vec<u8> {
-    let opened = calls::opened(random);
+    let begun = begun(random);
     let length = random.below(14);
-    let (_, ledger) = calls::list(random, &opened, length);
+    let (_, ledger) = calls::list(random, &begun, length);
     ledger.image()
 }
 
 /// A valid image put together field by field; many of these no list leads to.
 pub fn composed(random: &mut Random) -> Vec<u8> {
-    let opening = calls::opening(random);
+    let opening = settings(random);
     let (regions, markets) = (opening.regions as usize, opening.services as usize + 1);
     let window = opening.window.min(40);
     let most = window.min(6) as i64;
@@ -25,19 +51,9 @@ pub fn composed(random: &mut Random) -> Vec<u8> {
         _ => random.between(0, 10_000_000) as u32,
     };
     let mut fields = Fields {
-        regions: opening.regions as u8,
-        services: opening.services as u8,
         window: window as u16,
-        halves: opening.halves as u8,
-        parents: opening.parents,
         entries,
-        position: opening.first as u16,
-        threshold: opening.threshold,
-        cap: opening.cap,
-        floor: opening.floor,
-        counts: [0; 8],
-        periods: [0; 88],
-        prices: Vec::new(),
+        ..Fields::blank(&opening)
     };
     for region in 0..regions {
         let wanted = match random.below(4) {
@@ -142,6 +158,7 @@ fn damage_field(random: &mut Random, image: &mut [u8]) {
                 0,
                 1,
                 -1,
+                95_000,
                 highest - 1,
                 highest,
                 highest + 1,
