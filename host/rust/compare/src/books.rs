@@ -1,10 +1,13 @@
 //! Small books and entries for the worked cases.
 
+use crate::playing::Playing;
+use generator::calls::ring_length;
+use independent::image::Fields;
 use independent::ledger::Entry;
 use independent::rules::NO_PARENT;
-use independent::{Ledger, Opening};
+use independent::{Answer, Call, Ledger, Opening, Values};
 
-/// Unlinked regions, first position 0, threshold 95,000, limits ±60,000.
+/// Unlinked regions, first position 0, threshold 90,000, limits ±60,000.
 pub fn opening(regions: u32, services: u32, window: u32, halves: u32) -> Opening {
     Opening {
         regions,
@@ -13,9 +16,17 @@ pub fn opening(regions: u32, services: u32, window: u32, halves: u32) -> Opening
         halves,
         first: 0,
         parents: [NO_PARENT; 8],
-        threshold: 95_000,
+        threshold: 90_000,
         cap: 60_000,
         floor: -60_000,
+    }
+}
+
+/// The same with threshold 95,000, as document 01's worked books have it. They begin with an image: no book is opened with it.
+pub fn worked(regions: u32, services: u32, window: u32, halves: u32) -> Opening {
+    Opening {
+        threshold: 95_000,
+        ..opening(regions, services, window, halves)
     }
 }
 
@@ -30,14 +41,20 @@ pub fn parents(first: &[u8]) -> [u8; 8] {
 pub fn guide() -> Opening {
     Opening {
         parents: parents(&[255, 0, 1]),
-        ..opening(3, 0, 1, 1)
+        ..worked(3, 0, 1, 1)
     }
 }
 
 /// The opened ledger, over a ring of the right length.
 pub fn open(opening: &Opening) -> Ledger {
-    let ring = opening.regions * (opening.services + 1) * opening.window;
-    Ledger::open(opening, ring as usize).expect("a valid opening")
+    Ledger::open(opening, ring_length(opening)).expect("a valid opening")
+}
+
+/// The ledger that begins with the image of a book of these settings, over a ring of the right length.
+pub fn begin(settings: &Opening) -> Ledger {
+    let image = Fields::blank(settings).bytes();
+    let begun = Ledger::begin(&image, ring_length(settings));
+    begun.expect("a valid image").expect("no entries")
 }
 
 /// The next entry with these prices: a weekday, nothing marked, no flow, factors 10,000, a schedule of zeros.
@@ -54,12 +71,41 @@ pub fn plain(ledger: &Ledger, prices: &[i32]) -> Entry {
     }
 }
 
+/// What takes calls: the ledger alone, or beside it the compiled and the independent book, held to it.
+pub trait Takes {
+    fn ledger(&self) -> &Ledger;
+    fn answer(&mut self, call: Call) -> Answer;
+}
+
+impl Takes for Ledger {
+    fn ledger(&self) -> &Ledger {
+        self
+    }
+
+    fn answer(&mut self, call: Call) -> Answer {
+        self.call(&call)
+    }
+}
+
+impl Takes for Playing {
+    fn ledger(&self) -> &Ledger {
+        &self.ledger
+    }
+
+    fn answer(&mut self, call: Call) -> Answer {
+        self.call(call)
+    }
+}
+
 /// Takes an entry that must be accepted: its published table and count.
-pub fn take(ledger: &mut Ledger, entry: Entry) -> (Vec<i32>, u32) {
-    let ring = ledger.shape().ring();
-    let mut table = vec![i32::MIN; ledger.shape().prices()];
-    let count = ledger.enter(ring, entry, &mut table);
-    (table, count.expect("a valid entry"))
+pub fn take(book: &mut impl Takes, entry: Entry) -> (Vec<i32>, u32) {
+    let shape = *book.ledger().shape();
+    let lent = vec![i32::MIN; shape.prices()];
+    let answer = book.answer(Call::Entry(entry, shape.ring(), lent));
+    match (answer.number, answer.values) {
+        (0, Values::Entry(count, table)) => (table, count),
+        refused => panic!("a valid entry: {refused:?}"),
+    }
 }
 
 /// Takes an entry that must be refused: its number and place. Ledger and table stay.
@@ -75,21 +121,28 @@ pub fn refused(ledger: &mut Ledger, entry: Entry) -> (u32, u32) {
 }
 
 /// Takes a plain entry that must be accepted.
-pub fn take_plain(ledger: &mut Ledger, prices: &[i32]) -> (Vec<i32>, u32) {
-    let entry = plain(ledger, prices);
-    take(ledger, entry)
+pub fn take_plain(book: &mut impl Takes, prices: &[i32]) -> (Vec<i32>, u32) {
+    let entry = plain(book.ledger(), prices);
+    take(book, entry)
 }
 
 /// Takes an entry in which every region is marked, the schedule full of one number.
-pub fn take_marked(ledger: &mut Ledger, scheduled: i32) -> (Vec<i32>, u32) {
+pub fn take_marked(book: &mut impl Takes, scheduled: i32) -> (Vec<i32>, u32) {
+    let ledger = book.ledger();
     let mut entry = plain(ledger, &vec![0; ledger.shape().prices()]);
     entry.marks.fill(1);
     entry.schedule.fill(scheduled);
-    take(ledger, entry)
+    take(book, entry)
 }
 
 /// A market's sum, prices counted, mark and entries taken.
 pub fn report(ledger: &Ledger, region: u32, market: u32) -> (i64, u32, u32, u32) {
     let report = ledger.report(region, market).expect("a used market");
     (report.sum, report.counted, report.mark, report.entries)
+}
+
+/// The same of a book that is being played, by all three.
+pub fn reported(playing: &mut Playing, region: u32, market: u32) -> (i64, u32, u32, u32) {
+    assert_eq!(playing.call(Call::Report(region, market)).number, 0);
+    report(&playing.ledger, region, market)
 }

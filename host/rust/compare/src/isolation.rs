@@ -7,6 +7,7 @@ use crate::twins::{heard, List, Told, Twins};
 use crate::typed::{Difference, Pair};
 use generator::{calls, lists};
 use guxhamole::raw;
+use independent::image::Fields;
 use independent::{Answer, Call, Report, Values};
 use std::fmt::Write;
 
@@ -25,8 +26,11 @@ impl Played {
     pub fn of(list: &List, region: usize) -> Result<Played, Difference> {
         let ring = calls::ring_length(&list.opening);
         let memory = Memory::with_any_contents(list.memory);
-        let opened = Pair::open_in(memory, &list.opening, ring)?;
-        let mut pair = opened.map_err(|refusal| format!("a refused opening: {refusal:?}"))?;
+        let begun = match list.loaded {
+            true => Pair::load_in(memory, &Fields::blank(&list.opening).bytes(), ring)?,
+            false => Pair::open_in(memory, &list.opening, ring)?,
+        };
+        let mut pair = begun.map_err(|refusal| format!("a refused start: {refusal:?}"))?;
         let mut played = Played {
             answers: Vec::new(),
             books: vec![*pair.kept().0],
@@ -112,7 +116,8 @@ pub fn described(twins: &Twins) -> String {
     let mut text = format!("region {}\n", twins.region);
     for list in [one, other] {
         let opening = records::Record::Opening(lists::opening_record(&list.opening));
-        let _ = writeln!(text, "{opening}, memory from {:#x}", list.memory);
+        let by = if list.loaded { "the image of an " } else { "" };
+        let _ = writeln!(text, "{by}{opening}, memory from {:#x}", list.memory);
     }
     for (place, calls) in one.calls.iter().zip(&other.calls).enumerate() {
         let [one, other] = [calls.0, calls.1].map(|call| lists::call_record(call.clone()));

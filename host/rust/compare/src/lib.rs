@@ -2,6 +2,7 @@
 
 pub mod books;
 pub mod cutting;
+pub mod hundreds;
 pub mod intervals;
 pub mod isolation;
 pub mod left;

@@ -86,13 +86,7 @@ pub fn reports(rule: Rule, list: &List, answers: &[Answer], region: usize) -> Ve
 impl Machine {
     fn open(rule: Rule, list: &List) -> Machine {
         let opening = &list.opening;
-        let shape = Shape {
-            regions: opening.regions as usize,
-            services: opening.services as usize,
-            window: opening.window as usize,
-            halves: opening.halves as usize,
-            parents: opening.parents,
-        };
+        let shape = opening.shape();
         Machine {
             rule,
             shape,

@@ -3,7 +3,7 @@
 
 use crate::cutting::shortest_calls;
 use crate::typed::{same, verdict, Difference, Pair};
-use generator::lists;
+use generator::{calls, lists, Random};
 use independent::image::{Fields, HEAD};
 use independent::{Answer, Call, Ledger, Opening, Refusal};
 use std::fmt::Write;
@@ -16,10 +16,44 @@ pub enum Start {
 }
 
 impl Start {
-    fn ledger(&self) -> Result<Ledger, Refusal> {
+    /// An image that loads, and a ring of the right length.
+    pub fn image(image: Vec<u8>) -> Start {
+        let ring = Fields::read(&image).shape().ring();
+        Start::Image(image, ring)
+    }
+
+    /// The image of a book of these settings, without entries and with no period marked: "its settings standing for the opening's"
+    /// (request 2026-06 of document 02).
+    pub fn blank(settings: &Opening) -> Start {
+        Start::image(Fields::blank(settings).bytes())
+    }
+
+    /// An opening and a ring's length, mostly valid.
+    pub fn any_opening(random: &mut Random) -> Start {
+        let opening = match random.below(12) {
+            0 => {
+                let (opening, ring) = calls::damaged_opening(random);
+                return Start::Opening(lists::narrowed(&opening), ring.min(8 * 11 * 2_016 + 1));
+            }
+            1 => calls::damaged_settings(random),
+            _ => calls::opening(random),
+        };
+        let ring = calls::ring_length(&opening);
+        let ring = match random.below(25) {
+            0 => random.pick(&[0, ring - 1, ring + 1]),
+            _ => ring,
+        };
+        Start::Opening(opening, ring)
+    }
+
+    /// The ledger that begins with it, or goes on from an image with which no list begins.
+    pub fn ledger(&self) -> Result<Ledger, Refusal> {
         match self {
             Start::Opening(opening, ring) => Ledger::open(opening, *ring),
-            Start::Image(image, ring) => Ledger::load(image, *ring),
+            Start::Image(image, ring) => match Ledger::begin(image, *ring)? {
+                Some(begun) => Ok(begun),
+                None => Ledger::load(image, *ring),
+            },
         }
     }
 
@@ -72,6 +106,14 @@ impl Playing {
         let call = &self.list.calls[self.list.calls.len() - 1];
         step(&mut self.ledger, &mut self.pair, call)
             .unwrap_or_else(|what| differs(&self.list, &what))
+    }
+
+    /// The book that the image leads to once it holds another threshold, whether or not that could be set.
+    pub fn holding(&self, threshold: i64) -> Playing {
+        let mut fields = Fields::read(&self.pair.image());
+        fields.threshold = threshold;
+        let held = Playing::start(Start::image(fields.bytes()), self.list.cached);
+        held.expect("an image of any threshold")
     }
 
     /// "After L, the same for a report of each region and market", and the image.

@@ -2,9 +2,9 @@
 //! first that tells the region the same, everything else redrawn.
 
 use crate::books;
-use generator::{calls, Random};
+use generator::{calls, images, Random};
 use independent::ledger::Entry;
-use independent::rules::Shape;
+use independent::rules::{in_hundreds, Shape};
 use independent::{Answer, Call, Ledger, Opening};
 use std::ops::Range;
 
@@ -37,13 +37,24 @@ impl Kind {
     }
 }
 
-/// A list of calls from a valid opening over a ring of the right length. What rings and buffers held before they were lent comes from
-/// a seed.
+/// A list of calls from a valid opening, or from the image of a book of its settings, over a ring of the right length. What rings and
+/// buffers held before they were lent comes from a seed.
 #[derive(Clone, Debug)]
 pub struct List {
     pub opening: Opening,
+    /// Whether the list begins with the image: "its settings standing for the opening's".
+    pub loaded: bool,
     pub memory: u64,
     pub calls: Vec<Call>,
+}
+
+/// The ledger with which a list begins, which remembers what it would recompute.
+fn begun(opening: &Opening, loaded: bool) -> Ledger {
+    let begun = match loaded {
+        true => books::begin(opening),
+        false => books::open(opening),
+    };
+    begun.cached()
 }
 
 /// What one call tells a region.
@@ -117,12 +128,17 @@ pub struct Twins {
 impl Twins {
     /// A generated list of so many calls and its twin.
     pub fn drawn(random: &mut Random, length: usize) -> Twins {
-        let opening = calls::opening(random);
-        let mut ledger = books::open(&opening).cached();
+        let opening = match random.chance(70) {
+            true => calls::opening(random),
+            false => images::settings(random),
+        };
+        let loaded = any_start(random, &opening);
+        let mut ledger = begun(&opening, loaded);
         let (calls, _) = calls::list(random, &ledger, length);
         let answers: Vec<Answer> = calls.iter().map(|call| ledger.call(call)).collect();
         let list = List {
             opening,
+            loaded,
             memory: random.word(),
             calls,
         };
@@ -143,7 +159,8 @@ impl Twins {
 /// A list that tells a region what this one with its answers does.
 pub fn twin(random: &mut Random, list: &List, answers: &[Answer], region: usize) -> List {
     let opening = other_opening(random, &list.opening, region);
-    let mut ledger = books::open(&opening).cached();
+    let loaded = any_start(random, &opening);
+    let mut ledger = begun(&opening, loaded);
     let mut calls = Vec::new();
     for (call, answer) in list.calls.iter().zip(answers) {
         let call = match answer.number {
@@ -155,9 +172,15 @@ pub fn twin(random: &mut Random, list: &List, answers: &[Answer], region: usize)
     }
     List {
         opening,
+        loaded,
         memory: random.word(),
         calls,
     }
+}
+
+/// Whether a list begins with the image: half of those that could be opened, and all that could not.
+fn any_start(random: &mut Random, opening: &Opening) -> bool {
+    !in_hundreds(opening.threshold) || random.chance(50)
 }
 
 /// An opening like this one with other regions, parents and limits; the region exists.
@@ -263,7 +286,7 @@ fn surely_accepted(ledger: &Ledger, kind: Kind) -> Call {
     let zeros = vec![0; shape.prices()];
     match kind {
         Kind::Entry => Call::Entry(books::plain(ledger, &zeros), shape.ring(), zeros),
-        Kind::Threshold => Call::Threshold(1),
+        Kind::Threshold => Call::Threshold(10_000),
         Kind::Limits => Call::Limits(1, -1),
         Kind::Report => Call::Report(0, 0),
         Kind::Restart => Call::Restart(ledger.image().len(), shape.ring()),

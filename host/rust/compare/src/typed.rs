@@ -147,7 +147,8 @@ impl Pair {
         Pair::load_in(Memory::FILLED, image, ring_length)
     }
 
-    fn load_in(
+    /// Likewise, with a ring, and from then on other rings and buffers, from a memory.
+    pub fn load_in(
         mut memory: Memory,
         image: &[u8],
         ring_length: usize,

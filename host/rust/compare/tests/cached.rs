@@ -5,10 +5,10 @@ use generator::{calls, images, questions, Random};
 use independent::image::Fields;
 use independent::Ledger;
 
-/// An opened ledger, or one that goes on from an image.
+/// A ledger that begins with an opening or an image, or one that goes on from an image.
 fn any_ledger(random: &mut Random) -> Ledger {
     if random.chance(70) {
-        return calls::opened(random);
+        return images::begun(random);
     }
     let image = images::composed(random);
     let ring = Fields::read(&image).shape().ring();

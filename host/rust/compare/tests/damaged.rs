@@ -59,6 +59,7 @@ impl Met {
             Call::Restart(148 + 4 * ring.len(), ring.len()),
             Call::Report(last.0, last.1),
             entry(book, ring.len()),
+            Call::Threshold(95_000),
             Call::Threshold(90_000),
             Call::Limits(60_000, -60_000),
             Call::Report(last.0, 0),
@@ -201,7 +202,17 @@ fn damaged_settings(book: &raw::Book) -> Vec<raw::Book> {
     let (last, past) = (day.wrapping_sub(1), day + 1);
     let positions = [0, last, day, past, 287, 288, 65_535];
     let most = 100_000_000_000;
-    let thresholds = [i64::MIN, -1, 0, 1, most, most + 1, i64::MAX];
+    let thresholds = [
+        i64::MIN,
+        -1,
+        0,
+        1,
+        95_000,
+        most - 1,
+        most,
+        most + 1,
+        i64::MAX,
+    ];
     let most = 10_000_000;
     let caps = [i32::MIN, 0, 1, most, most + 1, i32::MAX];
     let floors = [i32::MIN, -most - 1, -most, -1, 0, i32::MAX];

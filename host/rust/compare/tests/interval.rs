@@ -2,7 +2,7 @@
 //! windows, period marks from step to step and limits by two sweeps over the tree, is held to the ledger.
 
 use compare::{rounds, say};
-use generator::{calls, Random};
+use generator::{calls, images, Random};
 use independent::ledger::Entry;
 use independent::rules::{Settings, Shape};
 use independent::{Call, Ledger, Values};
@@ -178,7 +178,7 @@ fn one_interval_is_the_ledger_machine() {
     for round in 0..rounds() {
         let mut random = Random::new(0xA_0000 + round);
         for _ in 0..2_500 {
-            let mut ledger = calls::opened(&mut random);
+            let mut ledger = images::begun(&mut random);
             let mut running = Running::new(&ledger);
             for _ in 0..random.between(1, 50) {
                 let call = calls::call(&mut random, &ledger);

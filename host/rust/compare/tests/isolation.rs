@@ -12,6 +12,7 @@ use generator::weeks::Weeks;
 use generator::Random;
 use guxhamole::raw;
 use independent::ledger::Entry;
+use independent::rules::in_hundreds;
 use independent::{Answer, Call, Opening, Values};
 use std::collections::BTreeMap;
 
@@ -53,6 +54,10 @@ impl Met {
 
     fn openings(&mut self, twins: &Twins) {
         let [one, other] = [0, 1].map(|which| twins.lists[which].opening);
+        let loaded = [0, 1].map(|which| twins.lists[which].loaded);
+        self.note("opened against loaded", loaded == [false, true]);
+        self.note("loaded against opened", loaded == [true, false]);
+        self.note("no multiple", !in_hundreds(one.threshold));
         let both = one.regions.min(other.regions) as usize;
         self.note("other R", one.regions != other.regions);
         self.note(
@@ -206,7 +211,10 @@ fn apart_from_right(twins: &Twins, played: &[Played; 2]) -> Option<String> {
 }
 
 /// What must be met, and how often at least.
-const FLOORS: [(&str, u64); 22] = [
+const FLOORS: [(&str, u64); 25] = [
+    ("opened against loaded", 300),
+    ("loaded against opened", 300),
+    ("no multiple", 300),
     ("other R", 400),
     ("other parents", 400),
     ("other cap", 800),
@@ -275,7 +283,7 @@ fn weeks_of_twins(random: &mut Random) -> Twins {
     for turn in 0..5_500 {
         let call = match turn {
             1_000 | 5_250 | 5_300 | 5_400 => Call::Restart(148 + 4 * ring, ring),
-            _ if turn % 300 == 299 => Call::Threshold(random.between(19_000_000, 21_000_000)),
+            _ if turn % 300 == 299 => Call::Threshold(10_000 * random.between(1_900, 2_100)),
             _ => Call::Entry(weeks.entry(random, &ledger), ring, vec![0; prices]),
         };
         answers.push(ledger.call(&call));
@@ -283,6 +291,7 @@ fn weeks_of_twins(random: &mut Random) -> Twins {
     }
     let list = List {
         opening,
+        loaded: false,
         memory: random.word(),
         calls,
     };
@@ -321,9 +330,10 @@ fn cutting_shortens() {
             supposed(twins, &played) && first_difference(&one, &other).is_some()
         };
         let mut random = Random::new(0x71_0000);
-        let drawn = (0..60).map(|_| Twins::drawn(&mut random, 30));
+        let drawn = (0..600).map(|_| Twins::drawn(&mut random, 30));
         let short = drawn
             .filter(shows)
+            .take(30)
             .map(|twins| shortest_twins(&twins, shows));
         let mut lengths: Vec<usize> = short.map(|short| short.lists[0].calls.len()).collect();
         lengths.sort_unstable();
@@ -384,8 +394,18 @@ fn plain(number: u32, prices: [i32; 2]) -> Call {
 
 /// Two lists about region 1, over memory of other contents, played.
 fn played(openings: [Opening; 2], calls: [&[Call]; 2]) -> (Twins, [Played; 2]) {
+    played_from(openings, [false; 2], calls)
+}
+
+/// Likewise, each from an opening or from the image of a book of its settings.
+fn played_from(
+    openings: [Opening; 2],
+    loaded: [bool; 2],
+    calls: [&[Call]; 2],
+) -> (Twins, [Played; 2]) {
     let lists = [0, 1].map(|which| List {
         opening: openings[which],
+        loaded: loaded[which],
         memory: which as u64,
         calls: calls[which].to_vec(),
     });
@@ -415,9 +435,21 @@ fn energies(played: &[Played; 2], place: usize) -> [i32; 2] {
     })
 }
 
-/// Lists that tell region 1 the same, and its energy's triples in both.
+/// Lists that tell region 1 the same, and its energy's triples in both: whichever of them begins with an image.
 fn alike(openings: [Opening; 2], calls: [&[Call]; 2], expected: &[(i64, u32, u32)]) -> [Played; 2] {
-    let (twins, played) = played(openings, calls);
+    for loaded in [[false, true], [true, false], [true, true]] {
+        alike_from(openings, loaded, calls, expected);
+    }
+    alike_from(openings, [false; 2], calls, expected)
+}
+
+fn alike_from(
+    openings: [Opening; 2],
+    loaded: [bool; 2],
+    calls: [&[Call]; 2],
+    expected: &[(i64, u32, u32)],
+) -> [Played; 2] {
+    let (twins, played) = played_from(openings, loaded, calls);
     assert!(supposed(&twins, &played), "{}", described(&twins));
     for played in &played {
         assert_eq!(triples(played, 0), expected, "{}", described(&twins));
@@ -541,6 +573,40 @@ fn case_7_a_service() {
     for played in &played {
         assert_eq!(triples(played, 1), [(95_000, 1, 1)]);
     }
+}
+
+/// An opening against the image of a book of its settings, in either order, and two images of a threshold that no book is opened with;
+/// other neighbours' prices, and a refused setting against a refused report.
+#[test]
+fn case_of_images() {
+    let image = Opening {
+        threshold: 95_000,
+        ..OPENING
+    };
+    let [one, other] =
+        [(0, Call::Threshold(95_000)), (70_000, Call::Report(2, 0))].map(|(price, refused)| {
+            [
+                plain(0, [price, 50_000]),
+                refused,
+                plain(1, [price, 45_000]),
+                plain(2, [price, 50_001]),
+            ]
+        });
+    // 95,000 exceeds 90,000, and does not exceed itself.
+    let expected = |mark| {
+        [
+            (50_000, 1, 0),
+            (50_000, 1, 0),
+            (95_000, 2, mark),
+            (95_001, 2, 1),
+        ]
+    };
+    for loaded in [[false, true], [true, false]] {
+        let played = alike_from([OPENING; 2], loaded, [&one, &other], &expected(1));
+        assert_eq!(numbers(&played[0]), [0, 44, 0, 0]);
+        assert_eq!(numbers(&played[1]), [0, 21, 0, 0]);
+    }
+    alike_from([image; 2], [true; 2], [&one, &other], &expected(0));
 }
 
 /// Lists that do not tell region 1 the same: what it hears, and its energy's triples at the end.

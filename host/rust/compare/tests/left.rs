@@ -72,16 +72,15 @@ impl Met {
         answer
     }
 
-    /// Some questions, and now and then one whose sum meets a threshold that is set for it.
-    fn ask_some(&mut self, random: &mut Random, playing: &mut Playing, times: usize) {
+    /// Some questions, and now and then one whose sum meets a threshold, of the book that an image with that threshold leads to.
+    fn ask_some(&mut self, random: &mut Random, playing: &Playing, times: usize) {
         for _ in 0..times {
             let question = questions::question(random, &playing.ledger);
             self.ask(playing, &question).ok();
         }
         if random.chance(30) {
             if let Some((threshold, question)) = questions::met(random, &playing.ledger) {
-                assert_eq!(playing.call(Call::Threshold(threshold)).number, 0);
-                self.ask(playing, &question).ok();
+                self.ask(&playing.holding(threshold), &question).ok();
             }
         }
     }
@@ -216,17 +215,23 @@ const WRONG: [(&str, Wrong); 10] = [
     }),
 ];
 
-/// A valid opening, or an image that loads. A wide window takes a ledger with a cache.
+/// A valid opening, an image to begin with, or any that loads. A wide window takes a ledger with a cache.
 fn any_list(random: &mut Random) -> Playing {
-    let (start, window) = if random.chance(15) {
-        let image = images::composed(random);
-        let fields = Fields::read(&image);
-        let ring = fields.shape().ring();
-        (Start::Image(image, ring), fields.window.into())
-    } else {
-        let opening = calls::opening(random);
-        let ring = calls::ring_length(&opening);
-        (Start::Opening(opening, ring), opening.window)
+    let (start, window) = match random.below(20) {
+        0..=2 => {
+            let image = images::composed(random);
+            let window = Fields::read(&image).window.into();
+            (Start::image(image), window)
+        }
+        3..=6 => {
+            let settings = images::settings(random);
+            (Start::blank(&settings), settings.window)
+        }
+        _ => {
+            let opening = calls::opening(random);
+            let ring = calls::ring_length(&opening);
+            (Start::Opening(opening, ring), opening.window)
+        }
     };
     Playing::start(start, window > NARROW).expect("a valid start")
 }
@@ -239,9 +244,9 @@ fn ask_after_entries(met: &mut Met, random: &mut Random, mut playing: Playing, l
         let is_entry = matches!(call, Call::Entry(..));
         let taken = playing.call(call).number == 0 && is_entry;
         if taken && !wide {
-            met.ask_some(random, &mut playing, 3);
+            met.ask_some(random, &playing, 3);
         } else if taken && random.chance(30) {
-            met.ask_some(random, &mut playing, 1);
+            met.ask_some(random, &playing, 1);
         }
     }
 }
@@ -329,7 +334,7 @@ fn books_at_the_bound() {
         let table = vec![0; playing.ledger.shape().prices()];
         let call = Call::Entry(entry, playing.ledger.shape().ring(), table);
         assert_eq!(playing.call(call).number, 12);
-        met.ask_some(&mut random, &mut playing, 4);
+        met.ask_some(&mut random, &playing, 4);
     }
     met.say("books at the bound");
     met.at_least(&["none", "1", "between", "W"], 300);
@@ -393,7 +398,7 @@ fn play_weeks(met: &mut Met, opening: &Opening, entries: u32, every: u32) -> u64
         if turn % every == 0 {
             let book = *playing.pair.kept().0;
             turned += u64::from(book.counts[0] == book.window && book.nexts[0] > 0);
-            met.ask_some(&mut random, &mut playing, 3);
+            met.ask_some(&mut random, &playing, 3);
         }
         if turn > 3_000 && turn % 499 == 0 {
             playing.call(restart(&playing.ledger));

@@ -1,5 +1,5 @@
 //! The intervals left, worked by hand: each case with its answer and the sums on the way there, by the compiled function, the
-//! independent book and the ledger, and by entering the intervals.
+//! independent book and the ledger, and by entering the intervals; from an image, and where it can be opened from an opening too.
 
 use compare::books;
 use compare::left::{ask, ask_playing, sums_entered};
@@ -9,7 +9,7 @@ use generator::questions::Question;
 use guxhamole::raw;
 use independent::image::Fields;
 use independent::ledger::Entry;
-use independent::rules::MOST_ENTRIES;
+use independent::rules::{in_hundreds, MOST_ENTRIES};
 use independent::{Call, Ledger, Opening};
 
 /// The price asked about, the threshold, the answer, and the sums after 1, 2 and so on.
@@ -34,14 +34,22 @@ fn entry(ledger: &Ledger, price: Option<i32>) -> Entry {
     entry
 }
 
-/// The book of a case: one region; the service's book has two markets.
-fn played(case: &Case) -> (Playing, Question) {
-    let opening = Opening {
+/// The starts of a case's book: one region; the service's book has two markets.
+fn starts(case: &Case) -> Vec<Start> {
+    let settings = Opening {
         threshold: case.threshold,
         ..books::opening(1, case.market, case.window, 1)
     };
-    let ring = calls::ring_length(&opening);
-    let mut playing = Playing::start(Start::Opening(opening, ring), true).expect("an opening");
+    let opening = Start::Opening(settings, calls::ring_length(&settings));
+    let mut starts = vec![Start::blank(&settings), opening];
+    starts.truncate(1 + usize::from(in_hundreds(case.threshold)));
+    starts
+}
+
+/// The book of a case.
+fn played(case: &Case, start: Start) -> (Playing, Question) {
+    let mut playing = Playing::start(start, true).expect("a valid start");
+    let ring = playing.ledger.shape().ring();
     for &price in case.entries {
         let entry = entry(&playing.ledger, price);
         let table = vec![0; playing.ledger.shape().prices()];
@@ -56,9 +64,17 @@ fn played(case: &Case) -> (Playing, Question) {
     (playing, question)
 }
 
-/// Asks and enters: the answer, and the sums that were told.
+/// Asks and enters, from each start: the book at last.
 fn works(case: &Case) -> Playing {
-    let (playing, question) = played(case);
+    let worked = starts(case)
+        .into_iter()
+        .map(|start| works_from(case, start));
+    worked.last().expect("a start at least")
+}
+
+/// The answer, and the sums that were told.
+fn works_from(case: &Case, start: Start) -> Playing {
+    let (playing, question) = played(case, start);
     let Case { name, price, .. } = *case;
     assert_eq!(ask_playing(&playing, &question), Ok(case.answer), "{name}");
     let next = |ledger: &Ledger| entry(ledger, Some(price));

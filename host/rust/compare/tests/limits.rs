@@ -6,14 +6,15 @@ use compare::playing::{Playing, Start};
 use compare::{books, rounds, say};
 use generator::{calls, Random};
 use guxhamole::raw;
+use independent::image::Fields;
 use independent::ledger::Entry;
 use independent::{Call, Opening, Values};
 use std::collections::BTreeMap;
 
 const MOST: i32 = 10_000_000;
 
-/// A case: regions in a row, each the parent of the next, S 0, W 1, H 1, threshold 95,000. Some energy is administered; the next
-/// entry has these prices, the same flow over every link, and the links' factors, region 1's first.
+/// A case: regions in a row, each the parent of the next, S 0, W 1, H 1, threshold 95,000, so that the book begins with an image. Some
+/// energy is administered; the next entry has these prices, the same flow over every link, and the links' factors, region 1's first.
 struct Case {
     name: &'static str,
     limits: (i32, i32),
@@ -114,19 +115,19 @@ const CASES: [Case; 9] = [
 ];
 
 impl Case {
-    fn opening(&self) -> Opening {
+    fn settings(&self) -> Opening {
         let regions = self.prices.len();
-        let mut opening = books::opening(regions as u32, 0, 1, 1);
-        (opening.cap, opening.floor) = self.limits;
+        let mut settings = books::worked(regions as u32, 0, 1, 1);
+        (settings.cap, settings.floor) = self.limits;
         for region in 1..regions {
-            opening.parents[region] = region as u8 - 1;
+            settings.parents[region] = region as u8 - 1;
         }
-        opening
+        settings
     }
 
     /// The entry that energy is administered from, and the case's.
     fn entries(&self) -> [Entry; 2] {
-        let ledger = books::open(&self.opening());
+        let ledger = books::begin(&self.settings());
         let mut first = vec![0; self.prices.len()];
         for &region in self.administered {
             first[region] = 100_000;
@@ -140,8 +141,8 @@ impl Case {
 
     /// What the archive, the independent book and the ledger publish.
     fn played(&self) -> Values {
-        let start = Start::Opening(self.opening(), self.prices.len());
-        let mut playing = Playing::start(start, false).expect("a valid opening");
+        let start = Start::blank(&self.settings());
+        let mut playing = Playing::start(start, false).expect("a valid image");
         let answers = self.entries().map(|entry| {
             let regions = self.prices.len();
             playing.call(Call::Entry(entry, regions, vec![77; regions]))
@@ -153,20 +154,9 @@ impl Case {
 
     /// What the fast book publishes.
     fn fast(&self) -> Values {
-        let (opening, regions) = (self.opening(), self.prices.len());
-        let opening = fast::Opening {
-            regions: regions as u8,
-            services: 0,
-            window: 1,
-            halves: 1,
-            first: 0,
-            parents: opening.parents,
-            threshold: opening.threshold,
-            cap: opening.cap,
-            floor: opening.floor,
-        };
+        let (regions, image) = (self.prices.len(), Fields::blank(&self.settings()).bytes());
         let (mut ring, mut table) = (vec![0; regions], vec![77; regions]);
-        let mut book = fast::Book::open(&opening, &mut ring).expect("a valid opening");
+        let mut book = fast::Book::load(&image, &mut ring).expect("a valid image");
         let counts = self.entries().map(|entry| {
             let lent = fast::Entry {
                 number: entry.number,

@@ -100,7 +100,7 @@ fn lists_of_calls() {
                 let fields = image::Fields::read(&image);
                 Ledger::load(&image, fields.shape().ring()).expect("a valid image")
             } else {
-                calls::opened(&mut random)
+                images::begun(&mut random)
             };
             play(&mut random, &from, &mut met);
         }
@@ -113,6 +113,7 @@ fn lists_of_calls() {
     let refusals = (11..=17).map(|number| ("entry", number));
     let others = [
         ("threshold", 18),
+        ("threshold", 44),
         ("limits", 19),
         ("report", 21),
         ("restart", 23),
@@ -214,7 +215,7 @@ fn openings() {
     say(&format!("openings: {met:?}"));
     assert_eq!(
         met.keys().copied().collect::<Vec<u32>>(),
-        [0, 11, 18, 19, 20]
+        [0, 11, 18, 19, 20, 44]
     );
 }
 

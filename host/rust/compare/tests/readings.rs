@@ -16,15 +16,15 @@ fn number(result: Result<Ledger, Refusal>) -> (u32, u32) {
     result.map_or_else(|refusal| (refusal.number, refusal.place), |_| (0, 0))
 }
 
-/// An opened ledger with some energy administered: one entry at the trigger's price.
-fn triggered(opening: &Opening, regions: &[usize]) -> Ledger {
-    let mut ledger = open(opening);
+/// A ledger with some energy administered: one entry at the trigger's price.
+fn triggered(settings: &Opening, regions: &[usize]) -> Ledger {
+    let mut ledger = begin(settings);
     let mut prices = vec![0; ledger.shape().prices()];
     for &region in regions {
         prices[ledger.shape().place(region, 0)] = 100_000;
     }
     take_plain(&mut ledger, &prices);
-    for region in 0..opening.regions {
+    for region in 0..settings.regions {
         let mark = u32::from(regions.contains(&(region as usize)));
         assert_eq!(report(&ledger, region, 0).2, mark);
     }
@@ -34,7 +34,7 @@ fn triggered(opening: &Opening, regions: &[usize]) -> Ledger {
 fn linked(first: &[u8]) -> Opening {
     Opening {
         parents: parents(first),
-        ..opening(first.len() as u32, 0, 1, 1)
+        ..worked(first.len() as u32, 0, 1, 1)
     }
 }
 
@@ -49,7 +49,10 @@ fn two(prices: [i32; 2], flow: i32, factor: u32) -> (Vec<i32>, u32) {
 
 #[test]
 fn a2_to_a5_opening() {
-    let good = linked(&[255, 0]);
+    let good = Opening {
+        parents: parents(&[255, 0]),
+        ..opening(2, 0, 1, 1)
+    };
     let with = |first: &[u8]| Opening {
         parents: parents(first),
         ..good
@@ -82,7 +85,7 @@ fn a2_to_a5_opening() {
 
 #[test]
 fn a17_to_a19_order() {
-    let mut ledger = open(&opening(2, 0, 1, 1));
+    let mut ledger = begin(&worked(2, 0, 1, 1));
     let mut entry = plain(&ledger, &[MOST + 1, 0]);
     entry.marks[1] = 2;
     assert_eq!(refused(&mut ledger, entry.clone()), (15, 1));
@@ -96,7 +99,7 @@ fn a17_to_a19_order() {
 
 #[test]
 fn a20_the_last_entry() {
-    let mut bytes = open(&opening(1, 0, 1, 1)).image();
+    let mut bytes = begin(&worked(1, 0, 1, 1)).image();
     bytes[20..24].copy_from_slice(&9_999_999u32.to_le_bytes());
     let mut ledger = Ledger::load(&bytes, 1).expect("an image");
     take_plain(&mut ledger, &[5]);
@@ -112,7 +115,7 @@ fn a20_the_last_entry() {
 
 #[test]
 fn a22_to_a26_places() {
-    let mut ledger = open(&opening(2, 1, 1, 1));
+    let mut ledger = begin(&worked(2, 1, 1, 1));
     let entry = plain(&ledger, &[0, -1, MOST + 1, 0]);
     assert_eq!(refused(&mut ledger, entry), (16, 1));
     for (energy, service, number) in [
@@ -122,7 +125,7 @@ fn a22_to_a26_places() {
         (-MOST - 1, 0, 16),
         (0, MOST + 1, 16),
     ] {
-        let mut ledger = open(&opening(1, 1, 1, 1));
+        let mut ledger = begin(&worked(1, 1, 1, 1));
         let entry = plain(&ledger, &[energy, service]);
         let result = ledger.enter(2, entry, &mut [0, 0]);
         assert_eq!(result.map_or_else(|refusal| refusal.number, |_| 0), number);
@@ -132,7 +135,7 @@ fn a22_to_a26_places() {
     entry.schedule.fill(i32::MIN);
     entry.flows[0] = i32::MIN;
     assert_eq!(take(&mut ledger, entry).0, [-60_000, 0, 0, 0]);
-    let mut ledger = open(&guide());
+    let mut ledger = begin(&guide());
     let mut entry = plain(&ledger, &[0, 0, 0]);
     entry.factors = vec![0, 9_999, 0];
     assert_eq!(refused(&mut ledger, entry.clone()), (17, 1));
@@ -144,8 +147,14 @@ fn a22_to_a26_places() {
 
 #[test]
 fn a27_a28_settings_and_reports() {
-    let mut ledger = open(&opening(1, 0, 1, 1));
-    for (threshold, number) in [(0, 18), (-1, 18), (100_000_000_001, 18), (1, 0)] {
+    let mut ledger = begin(&worked(1, 0, 1, 1));
+    for (threshold, number) in [
+        (0, 18),
+        (-1, 18),
+        (100_000_000_001, 18),
+        (1, 44),
+        (10_000, 0),
+    ] {
         let result = ledger.set_threshold(threshold);
         assert_eq!(result.map_or_else(|refusal| refusal.number, |()| 0), number);
     }
@@ -159,9 +168,9 @@ fn a27_a28_settings_and_reports() {
 
 #[test]
 fn a32_schedule_index() {
-    let mut ledger = open(&Opening {
+    let mut ledger = begin(&Opening {
         first: 5,
-        ..opening(1, 0, 1, 2)
+        ..worked(1, 0, 1, 2)
     });
     for expected in [3, 4] {
         let mut entry = plain(&ledger, &[0]);
@@ -174,17 +183,17 @@ fn a32_schedule_index() {
 
 #[test]
 fn a33_scheduled_service_held_at_zero() {
-    let mut ledger = open(&opening(1, 1, 1, 1));
+    let mut ledger = begin(&worked(1, 1, 1, 1));
     assert_eq!(take_marked(&mut ledger, -70_000), (vec![-60_000, 0], 0));
 }
 
 #[test]
 fn a34_services_capped() {
-    let mut ledger = open(&opening(1, 2, 1, 1));
+    let mut ledger = begin(&worked(1, 2, 1, 1));
     take_plain(&mut ledger, &[0, 100_000, 0]);
     let second = take_plain(&mut ledger, &[90_000, 10, 70_000]);
     assert_eq!(second, (vec![90_000, 10, 60_000], 1));
-    let mut ledger = triggered(&opening(1, 2, 1, 1), &[0]);
+    let mut ledger = triggered(&worked(1, 2, 1, 1), &[0]);
     let second = take_plain(&mut ledger, &[-70_000, 70_000, 70_000]);
     assert_eq!(second, (vec![-60_000, 60_000, 60_000], 3));
 }
@@ -222,9 +231,9 @@ fn a37_limits_bind_marked_regions() {
 
 #[test]
 fn a38_services_are_no_source() {
-    let mut ledger = open(&Opening {
+    let mut ledger = begin(&Opening {
         parents: parents(&[255, 0]),
-        ..opening(2, 1, 1, 1)
+        ..worked(2, 1, 1, 1)
     });
     take_plain(&mut ledger, &[0, 100_000, 0, 0]);
     let mut entry = plain(&ledger, &[90_000, 70_000, 90_000, 70_000]);
@@ -275,7 +284,7 @@ fn a43_cap_and_floor() {
 
 #[test]
 fn a44_eight_regions_in_a_row() {
-    let ledger = open(&Opening {
+    let ledger = begin(&Opening {
         floor: -MOST,
         ..linked(&[255, 0, 1, 2, 3, 4, 5, 6])
     });
@@ -323,20 +332,20 @@ fn a46_floor_does_not_travel_upstream() {
 
 #[test]
 fn a47_count() {
-    let mut ledger = open(&opening(1, 0, 1, 1));
+    let mut ledger = begin(&worked(1, 0, 1, 1));
     assert_eq!(take_marked(&mut ledger, 1_000_000), (vec![60_000], 0));
 }
 
 #[test]
 fn a48_marks_before_the_entry() {
-    let mut ledger = open(&guide());
+    let mut ledger = begin(&guide());
     let prices = [100_000, 90_000, 85_000];
     assert_eq!(take_plain(&mut ledger, &prices), (prices.to_vec(), 0));
 }
 
 #[test]
 fn a49_marked_regions_too() {
-    let mut ledger = open(&opening(1, 0, 1, 1));
+    let mut ledger = begin(&worked(1, 0, 1, 1));
     ledger.set_threshold(70_000).expect("a threshold");
     take_plain(&mut ledger, &[60_000]);
     ledger.set_threshold(50_000).expect("a threshold");
@@ -344,7 +353,7 @@ fn a49_marked_regions_too() {
     take_marked(&mut ledger, 0);
     assert_eq!(report(&ledger, 0, 0).2, 1);
 
-    let mut ledger = open(&opening(1, 0, 1, 1));
+    let mut ledger = begin(&worked(1, 0, 1, 1));
     ledger.set_threshold(50_000).expect("a threshold");
     take_plain(&mut ledger, &[60_000]);
     ledger.set_threshold(70_000).expect("a threshold");
@@ -356,9 +365,9 @@ fn a49_marked_regions_too() {
 
 #[test]
 fn a50_at_the_end_of_the_day() {
-    let mut ledger = open(&Opening {
+    let mut ledger = begin(&Opening {
         first: 5,
-        ..opening(1, 0, 1, 1)
+        ..worked(1, 0, 1, 1)
     });
     take_plain(&mut ledger, &[100_000]);
     assert_eq!(report(&ledger, 0, 0).2, 1);
@@ -373,7 +382,7 @@ fn a52_number() {
 
 #[test]
 fn a53_to_a57_images() {
-    let mut ledger = open(&opening(1, 1, 2, 1));
+    let mut ledger = begin(&worked(1, 1, 2, 1));
     take_plain(&mut ledger, &[1, 3]);
     take_plain(&mut ledger, &[2, 4]);
     let image = ledger.image();
@@ -403,7 +412,7 @@ fn a53_to_a57_images() {
 /// "Loading puts the oldest at the window's first place": a full window goes on as it would have.
 #[test]
 fn a58_full_window() {
-    let mut ledger = open(&opening(1, 0, 3, 1));
+    let mut ledger = begin(&worked(1, 0, 3, 1));
     for price in [1, 10, 100, 1_000, 10_000] {
         take_plain(&mut ledger, &[price]);
     }
@@ -416,7 +425,7 @@ fn a58_full_window() {
 
 #[test]
 fn a64_restart() {
-    let mut ledger = open(&opening(1, 0, 1, 1));
+    let mut ledger = begin(&worked(1, 0, 1, 1));
     take_plain(&mut ledger, &[1]);
     let number = |result: Result<(), Refusal>| result.map_or_else(|r| r.number, |()| 0);
     assert_eq!(number(ledger.restart(152, 1)), 0);

@@ -7,6 +7,7 @@ use compare::{rounds, say};
 use generator::lists::{self, List};
 use generator::{calls, Random};
 use independent::player::{play, Played, ENDS};
+use independent::rules::threshold_refusal;
 use independent::{Call, Ledger, Opening};
 use records::{Record, ENTRY, LIMITS, OPENING, REPORT, RESTART, THRESHOLD};
 use std::collections::BTreeMap;
@@ -54,10 +55,13 @@ impl Met {
 }
 
 /// The guide's case: "Entry 1, same prices, flows B and C 1, factors 11,000 and 10,800: 60,000, 54,545, 50,505, count
-/// 3."
+/// 3." A list of records begins with an opening, so that the threshold is 90,000, which these prices pass where they pass 95,000.
 #[test]
 fn guide() {
-    let opening = books::guide();
+    let opening = Opening {
+        threshold: 90_000,
+        ..books::guide()
+    };
     let mut entry = books::plain(&books::open(&opening), &[100_000, 90_000, 85_000]);
     let first = lists::entry_record(entry.clone(), 3, vec![0; 3]);
     entry.number = 1;
@@ -104,9 +108,9 @@ fn generated_lists() {
     }
     met.say("generated");
     assert!(met.calls >= 200_000);
-    met.at_least(OPENING, &[0, 11, 18, 19, 20], 100);
+    met.at_least(OPENING, &[0, 11, 18, 19, 20, 44], 100);
     met.at_least(ENTRY, &[0, 10, 11, 13, 14, 15, 16, 17], 300);
-    met.at_least(THRESHOLD, &[0, 10, 18], 300);
+    met.at_least(THRESHOLD, &[0, 10, 18, 44], 300);
     met.at_least(LIMITS, &[0, 10, 19], 300);
     met.at_least(REPORT, &[0, 10, 21], 300);
     met.at_least(RESTART, &[0, 10, 11, 23], 300);
@@ -308,14 +312,28 @@ fn real_list(random: &mut Random, opening: &Opening) -> (Vec<Record>, Ledger) {
     (records, ledger)
 }
 
-/// A list as a replay plays it that tests "at least" for "exceeds": every threshold is lower by one.
+/// A list with prices in whole hundreds of dollars, as thresholds are.
+fn in_whole_hundreds(mut list: List) -> List {
+    for record in &mut list.records {
+        if let Record::Entry(entry) = record {
+            let cut = |price: &mut i32| *price -= *price % 10_000;
+            entry.prices.iter_mut().for_each(cut);
+        }
+    }
+    list
+}
+
+/// Such a list as a replay plays it that tests "at least" for "exceeds": every threshold is lower by a hundred dollars.
 fn at_least(list: &List) -> List {
     let mut lower = list.clone();
     for record in &mut lower.records {
-        match record {
-            Record::Opening(opening) if opening.threshold > 1 => opening.threshold -= 1,
-            Record::Threshold(threshold) if *threshold > 1 => *threshold -= 1,
-            _ => {}
+        let threshold = match record {
+            Record::Opening(opening) => &mut opening.threshold,
+            Record::Threshold(threshold) => threshold,
+            _ => continue,
+        };
+        if *threshold > 10_000 && threshold_refusal(*threshold).is_ok() {
+            *threshold -= 10_000;
         }
     }
     lower
@@ -330,7 +348,7 @@ fn a_wrong_replay_is_noticed() {
     let mut random = Random::new(0x10_0000);
     let mut noticed = 0;
     for _ in 0..300 {
-        let list = lists::list(&mut random, 20);
+        let list = in_whole_hundreds(lists::list(&mut random, 20));
         if differs(&list) {
             let short = shortest_list(&list, differs).records.len();
             assert!(short <= 12, "{short} calls are left");

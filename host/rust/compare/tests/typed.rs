@@ -1,9 +1,9 @@
 //! Lists of calls through the crate `guxhamole`, call by call, against the independent ledger and the independent book.
 
 use compare::cutting::shortest_calls;
+use compare::hundreds::holding;
 use compare::playing::{List, Playing, Start};
 use compare::{books, rounds, say};
-use generator::lists::narrowed;
 use generator::weeks::Weeks;
 use generator::{calls, images, Random};
 use guxhamole::raw;
@@ -86,30 +86,6 @@ impl Met {
     }
 }
 
-/// An opening, mostly valid, and its ring's length.
-fn any_opening(random: &mut Random) -> Start {
-    let opening = match random.below(12) {
-        0 => {
-            let (opening, ring) = calls::damaged_opening(random);
-            return Start::Opening(narrowed(&opening), ring.min(8 * 11 * 2_016 + 1));
-        }
-        1 => calls::damaged_settings(random),
-        _ => calls::opening(random),
-    };
-    let ring = calls::ring_length(&opening);
-    let ring = match random.below(25) {
-        0 => random.pick(&[0, ring - 1, ring + 1]),
-        _ => ring,
-    };
-    Start::Opening(opening, ring)
-}
-
-/// An image that loads, and its ring's length.
-fn any_image(image: Vec<u8>) -> Start {
-    let ring = Fields::read(&image).shape().ring();
-    Start::Image(image, ring)
-}
-
 /// Every answer that a list can meet.
 #[test]
 fn generated_lists() {
@@ -118,8 +94,9 @@ fn generated_lists() {
         let mut random = Random::new(0x20_0000 + round);
         for turn in 0..11_000 {
             let start = match turn % 10 {
-                0 => any_image(images::composed(&mut random)),
-                _ => any_opening(&mut random),
+                0 => Start::image(images::composed(&mut random)),
+                1 | 2 => Start::image(images::blank(&mut random)),
+                _ => Start::any_opening(&mut random),
             };
             let length = random.below(if turn % 10 == 5 { 100 } else { 40 });
             if let Some(playing) = met.start(start, false) {
@@ -129,9 +106,9 @@ fn generated_lists() {
     }
     met.say("generated");
     assert!(met.all() >= 200_000);
-    met.at_least("opening", &[0, 11, 18, 19, 20], 100);
+    met.at_least("opening", &[0, 11, 18, 19, 20, 44], 100);
     met.at_least("entry", &[0, 11, 13, 14, 15, 16, 17], 300);
-    met.at_least("threshold", &[0, 18], 300);
+    met.at_least("threshold", &[0, 18, 44], 300);
     met.at_least("limits", &[0, 19], 300);
     met.at_least("report", &[0, 21], 300);
     met.at_least("restart", &[0, 11, 23], 300);
@@ -176,7 +153,7 @@ fn books_at_the_bound() {
     for turn in 0..1_500 {
         let mut fields = Fields::read(&images::composed(&mut random));
         fields.entries = MOST_ENTRIES - 1 - turn % 3;
-        let Some(mut playing) = met.start(any_image(fields.bytes()), false) else {
+        let Some(mut playing) = met.start(Start::image(fields.bytes()), false) else {
             continue;
         };
         for _ in 0..12 {
@@ -394,42 +371,42 @@ fn restarts_at_every_phase_of_a_week() {
     met.say("restarts, week");
 }
 
-/// A list as a book plays it that tests "at least" for "exceeds": every threshold is lower by one.
-fn at_least(list: &List) -> List {
-    let mut lower = list.clone();
-    if let Start::Opening(opening, _) = &mut lower.start {
-        opening.threshold = 1.max(opening.threshold - 1);
-    }
-    for call in &mut lower.calls {
-        match call {
-            Call::Threshold(threshold) if *threshold > 1 => *threshold -= 1,
-            _ => {}
+/// What a book answers to a list that tests "at least" for "exceeds": every threshold is lower by one, which images alone can hold.
+fn answers_at_least(list: &List) -> Vec<Answer> {
+    let mut ledger = list.start.ledger().expect("a valid start");
+    let lower = |ledger: &Ledger| holding(ledger, 1.max(ledger.settings().threshold - 1));
+    ledger = lower(&ledger);
+    let answer = |call: &Call| {
+        let answer = ledger.call(call);
+        if matches!(call, Call::Threshold(_)) && answer.number == 0 {
+            ledger = lower(&ledger);
         }
-    }
-    lower
+        answer
+    };
+    list.calls.iter().map(answer).collect()
 }
 
 /// The answers of the ledger alone.
 fn answers(list: &List) -> Vec<Answer> {
-    let Start::Opening(opening, ring) = &list.start else {
-        return Vec::new();
-    };
-    let ledger = Ledger::open(opening, *ring);
-    let played = ledger.map(|mut ledger| list.calls.iter().map(|call| ledger.call(call)).collect());
-    played.unwrap_or_default()
+    let mut ledger = list.start.ledger().expect("a valid start");
+    list.calls.iter().map(|call| ledger.call(call)).collect()
 }
 
 /// The comparison can fail: "Errors the trade makes: testing 'at least' for 'exceeds'" is noticed, and cutting finds a
 /// short list.
 #[test]
 fn a_wrong_book_is_noticed() {
-    let differs = |list: &List| answers(list) != answers(&at_least(list));
+    let differs = |list: &List| answers(list) != answers_at_least(list);
     let mut random = Random::new(0x26_0000);
     let mut noticed = 0;
-    for _ in 0..300 {
+    for turn in 0..300 {
         let opening = calls::opening(&mut random);
-        let start = Start::Opening(opening, calls::ring_length(&opening));
-        let (calls, _) = calls::list(&mut random, &books::open(&opening), 20);
+        let start = match turn % 2 {
+            0 => Start::Opening(opening, calls::ring_length(&opening)),
+            _ => Start::image(images::blank(&mut random)),
+        };
+        let ledger = start.ledger().expect("a valid start");
+        let (calls, _) = calls::list(&mut random, &ledger, 20);
         let cached = false;
         let list = List {
             start,

@@ -56,14 +56,15 @@ pub fn held_threshold(random: &mut Random, cap: i32) -> i64 {
     }
 }
 
-/// A keying slip: a threshold beside a multiple, half a multiple from it, or a digit too few or too many.
+/// A keying slip: a threshold beside a multiple, half a multiple from it, or with a digit too few.
 fn slip(random: &mut Random, threshold: i64) -> i64 {
-    match random.below(6) {
-        0 | 1 => threshold + random.pick(&[-1, 1]),
-        2 | 3 => threshold + random.pick(&[-5_000, 5_000]),
-        4 => threshold / 10,
-        _ => threshold + random.pick(&[-1_000, 1_000, 100, 2_500, 9_000]),
-    }
+    let beside = match random.below(6) {
+        0 | 1 => random.pick(&[-1, 1]),
+        2 | 3 => random.pick(&[-5_000, 5_000]),
+        4 => return threshold / 10,
+        _ => random.pick(&[-1_000, 1_000, 100, 2_500, 9_000]),
+    };
+    threshold.saturating_add(beside)
 }
 
 /// The regions' parents: mostly any lower ones, else those before them, so that limits go over many links.
@@ -508,7 +509,8 @@ pub fn next_threshold(random: &mut Random, ledger: &Ledger) -> i64 {
         1 | 2 => slip(random, multiple),
         3 => sum + random.between(-1, 1),
         4 => HUNDRED * random.between(1, 20),
-        _ => multiple,
+        5 => multiple,
+        _ => multiple.max(HUNDRED),
     }
 }
 
