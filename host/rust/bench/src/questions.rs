@@ -8,12 +8,14 @@ use crate::typed::{alike, cost, timed, Host, Typed};
 /// answers, so that all of W are looked at.
 pub const CALLS: [&str; 3] = ["store", "question, 1 interval", "question, none of W"];
 
-/// A threshold that every sum of these books exceeds, and one that none does.
-const LOW: i64 = 1;
+/// A hundred dollars, of which thresholds are multiples: every sum of these books with the price asked about exceeds it.
+const LOW: i64 = 10_000;
+
+/// A threshold that no sum exceeds.
 const HIGH: i64 = 100_000_000_000;
 
 /// The price asked about.
-const PRICE: i32 = 8_000;
+const PRICE: i32 = 12_000;
 
 /// Measures each of `CALLS` on a book whose window is full and has turned half round, so that the oldest price stands in its middle.
 pub fn measure(market: &Market, rounds: usize) -> [Costs; 3] {
@@ -45,7 +47,8 @@ fn compare(market: &Market, proved: &mut Host<guxhamole::Book>, fast: &mut Host<
         let (region, at) = (place / markets, place % markets);
         let (sum, ..) = proved.report_of(region, at);
         let share = (sum / i64::from(market.window)) as i32;
-        for threshold in [LOW, sum.max(1), sum + 1, sum + 100_000, HIGH] {
+        let below = LOW.max(sum - sum % LOW);
+        for threshold in [LOW, below, below + LOW, below + 10 * LOW, HIGH] {
             proved.set_threshold(threshold);
             fast.set_threshold(threshold);
             for price in [0, share, share + 1, 2 * share + 10, PRICE, 10_000_000] {

@@ -66,10 +66,9 @@ fn played(case: &Case, start: Start) -> (Playing, Question) {
 
 /// Asks and enters, from each start: the book at last.
 fn works(case: &Case) -> Playing {
-    let worked = starts(case)
-        .into_iter()
-        .map(|start| works_from(case, start));
-    worked.last().expect("a start at least")
+    let from = |start| works_from(case, start);
+    let mut worked: Vec<Playing> = starts(case).into_iter().map(from).collect();
+    worked.pop().expect("a start at least")
 }
 
 /// The answer, and the sums that were told.

@@ -94,6 +94,49 @@ fn guide() {
     assert_eq!(said, expected);
 }
 
+/// The answers to an opening of the smallest book with this threshold and cap, to two settings of the threshold and to a report.
+fn told(threshold: i64, cap: i32) -> Vec<String> {
+    let opening = Opening {
+        threshold,
+        cap,
+        ..books::opening(1, 0, 1, 1)
+    };
+    let (region, market) = (0, 0);
+    let records = vec![
+        Record::Opening(lists::opening_record(&opening)),
+        Record::Threshold(95_000),
+        Record::Threshold(100_000_010_000),
+        Record::Report { region, market },
+    ];
+    let played = same(&whole(&opening, records));
+    let (answers, _) = records::split(&played.answers);
+    answers.iter().map(|answer| answer.to_string()).collect()
+}
+
+/// "(44: a threshold within range but no multiple of 10,000; directly after 18.)" A refused opening leaves a closed book.
+#[test]
+fn whole_hundreds() {
+    let zeros = "sum 0, counted 0, mark 0, entries 0";
+    let report = format!("accepted, {zeros}");
+    let opened = ["accepted", "refused by 44", "refused by 18", &report];
+    for threshold in [10_000, 90_000, 100_000_000_000] {
+        assert_eq!(told(threshold, 60_000), opened);
+    }
+    let report = format!("refused by 10, {zeros}");
+    for (threshold, cap, number) in [
+        (95_000, 60_000, 44),
+        (95_000, 0, 44),
+        (99_999_999_999, 60_000, 44),
+        (0, 0, 18),
+        (100_000_010_000, 60_000, 18),
+        (90_000, 0, 19),
+    ] {
+        let refused = format!("refused by {number}");
+        let closed = [&refused, "refused by 10", "refused by 10", &report];
+        assert_eq!(told(threshold, cap), closed, "{threshold}, {cap}");
+    }
+}
+
 /// Every answer that a short list can meet: all but 12 (ten million entries) and 22.
 #[test]
 fn generated_lists() {
@@ -346,17 +389,19 @@ fn a_wrong_replay_is_noticed() {
     let answers = |list: &List| play(&records::bytes(&list.records), &list.lent).answers;
     let differs = |list: &List| answers(list) != answers(&at_least(list));
     let mut random = Random::new(0x10_0000);
-    let mut noticed = 0;
-    for _ in 0..300 {
-        let list = in_whole_hundreds(lists::list(&mut random, 20));
-        if differs(&list) {
-            let short = shortest_list(&list, differs).records.len();
-            assert!(short <= 12, "{short} calls are left");
-            noticed += 1;
-        }
-    }
-    say(&format!("replay, a wrong one: noticed in {noticed} of 300"));
+    let drawn = (0..300).map(|_| in_whole_hundreds(lists::list(&mut random, 20)));
+    let short = drawn
+        .filter(differs)
+        .map(|list| shortest_list(&list, differs));
+    let mut lengths: Vec<usize> = short.map(|list| list.records.len()).collect();
+    lengths.sort_unstable();
+    let noticed = lengths.len();
+    say(&format!(
+        "replay, a wrong one: noticed in {noticed} of 300, cut down to {lengths:?} calls"
+    ));
     assert!(noticed >= 10);
+    // Where a wrong mark shows at the end of a day alone, the day's entries stay.
+    assert!(lengths[noticed / 2] <= 6 && lengths[noticed - 1] <= 20);
 }
 
 /// "10,000,000 entries taken"

@@ -252,7 +252,7 @@ fn threshold_valid(threshold: i64) -> bool {
 /// 18, then "44: a threshold within range but no multiple of 10,000": of what is opened with or set, not of what a book may hold.
 fn threshold_settable(threshold: i64) -> Result<(), Refusal> {
     unless(threshold_valid(threshold), 18)?;
-    unless(threshold as u64 % 10_000 == 0, 44)
+    unless((threshold as u64).is_multiple_of(10_000), 44)
 }
 
 /// "cap 1..10,000,000; floor −10,000,000..−1"

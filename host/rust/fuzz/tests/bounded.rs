@@ -187,11 +187,11 @@ fn all_met(met: &BTreeMap<(&'static str, u32), u64>) {
     let expected: [(&str, &[u32]); 14] = [
         ("check", &[0]),
         ("load", &[0]),
-        ("opening", &[0]),
+        ("opening", &[0, 18, 44]),
         ("replay", &[1]),
         ("entry", &[0, 10, 11, 12, 13, 14, 15, 16, 17]),
         ("restart", &[0, 10, 11, 22, 23]),
-        ("threshold", &[0, 18]),
+        ("threshold", &[0, 18, 44]),
         ("limits", &[0, 19]),
         ("report", &[0]),
         ("schedule", &[0]),
