@@ -182,11 +182,17 @@ fn nothing(number: u32) -> Answer {
     }
 }
 
+/// An image with another threshold, whether or not that could be set.
+pub fn image_holding(image: &[u8], threshold: i64) -> Vec<u8> {
+    let mut fields = Fields::read(image);
+    fields.threshold = threshold;
+    fields.bytes()
+}
+
 /// The ledger with another threshold: "An image that holds another threshold still loads, and that threshold stays until the next
 /// setting."
 pub fn holding(ledger: &Ledger, threshold: i64) -> Ledger {
-    let mut fields = Fields::read(&ledger.image());
-    fields.threshold = threshold;
-    let held = Ledger::load(&fields.bytes(), ledger.shape().ring());
+    let image = image_holding(&ledger.image(), threshold);
+    let held = Ledger::load(&image, ledger.shape().ring());
     held.expect("an image of any threshold")
 }

@@ -2,6 +2,7 @@
 //! independent ledger; and what is said of a difference.
 
 use crate::cutting::shortest_calls;
+use crate::hundreds::image_holding;
 use crate::typed::{same, verdict, Difference, Pair};
 use generator::{calls, lists, Random};
 use independent::image::{Fields, HEAD};
@@ -108,11 +109,10 @@ impl Playing {
             .unwrap_or_else(|what| differs(&self.list, &what))
     }
 
-    /// The book that the image leads to once it holds another threshold, whether or not that could be set.
+    /// The book that the image leads to once it holds another threshold.
     pub fn holding(&self, threshold: i64) -> Playing {
-        let mut fields = Fields::read(&self.pair.image());
-        fields.threshold = threshold;
-        let held = Playing::start(Start::image(fields.bytes()), self.list.cached);
+        let image = image_holding(&self.pair.image(), threshold);
+        let held = Playing::start(Start::image(image), self.list.cached);
         held.expect("an image of any threshold")
     }
 

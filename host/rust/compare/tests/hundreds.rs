@@ -95,67 +95,55 @@ fn settings() {
     }
 }
 
-/// "Open: 20 a setting; 11 ring length; 18 threshold; 19 cap or floor", 44 "directly after 18": every set of them at once.
+/// "Open: 20 a setting; 11 ring length; 18 threshold; 19 cap or floor", 44 "directly after 18".
 #[test]
 fn order_of_an_opening() {
-    assert_eq!(
-        opened(
-            &Opening {
-                cap: 0,
-                ..smallest(95_000)
-            },
-            1
-        ),
-        44
-    );
-    assert_eq!(
-        opened(
-            &Opening {
-                cap: 0,
-                ..smallest(0)
-            },
-            1
-        ),
-        18
-    );
+    let no_cap = |threshold| Opening {
+        cap: 0,
+        ..smallest(threshold)
+    };
+    let late = Opening {
+        first: 6,
+        ..smallest(95_000)
+    };
+    assert_eq!(opened(&no_cap(95_000), 1), 44);
+    assert_eq!(opened(&no_cap(0), 1), 18);
+    assert_eq!(opened(&no_cap(90_000), 1), 19);
     assert_eq!(opened(&smallest(95_000), 2), 11);
-    assert_eq!(
-        opened(
-            &Opening {
-                first: 6,
-                ..smallest(95_000)
-            },
-            1
-        ),
-        20
-    );
+    assert_eq!(opened(&late, 1), 20);
+}
+
+/// Every set of an opening's refusals at once, the threshold's by each of the cases.
+#[test]
+fn every_set_of_refusals() {
+    let limits = [(60_000, -60_000, 0), (0, -60_000, 19), (60_000, 0, 19)];
+    let places = [(0, 1, 0), (0, 0, 11), (0, 2, 11), (6, 1, 20), (6, 2, 20)];
+    let sets = limits.map(|limits| places.map(|place| (limits, place)));
     for (threshold, number) in cases() {
-        for (cap, floor, limits) in [(60_000, -60_000, 0), (0, -60_000, 19), (60_000, 0, 19)] {
-            for (first, ring) in [(0, 1), (0, 0), (0, 2), (6, 1), (6, 2)] {
-                let opening = Opening {
-                    first,
-                    cap,
-                    floor,
-                    ..smallest(threshold)
-                };
-                let expected = match (first, ring, number) {
-                    (6, ..) => 20,
-                    (_, 0 | 2, _) => 11,
-                    (_, _, 0) => limits,
-                    (_, _, number) => number,
-                };
-                assert_eq!(opened(&opening, ring), expected, "{opening:?}, ring {ring}");
-            }
+        for ((cap, floor, after), (first, ring, before)) in sets.into_iter().flatten() {
+            let opening = Opening {
+                first,
+                cap,
+                floor,
+                ..smallest(threshold)
+            };
+            let held = [before, number, after].into_iter().find(|held| *held != 0);
+            let expected = held.unwrap_or(0);
+            assert_eq!(opened(&opening, ring), expected, "{opening:?}, ring {ring}");
         }
     }
+}
+
+/// The smallest book, as its image at 95,000 loads.
+fn loaded() -> raw::Book {
+    let playing = Playing::start(Start::blank(&smallest(95_000)), false).expect("a valid image");
+    *playing.pair.kept().0
 }
 
 /// 10 comes before 18 and 44: of a closed book, and of one with a field outside its limits.
 #[test]
 fn a_book_first() {
-    let playing = Playing::start(Start::blank(&smallest(95_000)), false).expect("a valid image");
-    let sound = *playing.pair.kept().0;
-    let unsound = raw::Book { cap: 0, ..sound };
+    let unsound = raw::Book { cap: 0, ..loaded() };
     for book in [raw::Book::CLOSED, unsound] {
         for (threshold, _) in cases() {
             let answer = Pair::of(book, &[0]).call(&Call::Threshold(threshold));
@@ -170,11 +158,7 @@ fn no_part_of_rule_10() {
     for (threshold, number) in cases() {
         let book = raw::Book {
             threshold,
-            ..*Playing::start(Start::blank(&smallest(1)), false)
-                .expect("a valid image")
-                .pair
-                .kept()
-                .0
+            ..loaded()
         };
         assert_eq!(paper(&book).fault().is_some(), number == 18, "{threshold}");
         let expected = if number == 18 { 10 } else { 0 };

@@ -1,5 +1,6 @@
 //! Openings and lists of calls over small books, so that windows fill and days end often.
 
+use crate::questions::staying;
 use crate::random::Random;
 use crate::ties;
 use independent::ledger::Entry;
@@ -190,15 +191,8 @@ fn any_limits(random: &mut Random) -> (i32, i32) {
     (cap, floor)
 }
 
-/// What a market's sum lacks to be the threshold after the next entry: with that price it is met, with a cent more passed.
-fn missing(ledger: &Ledger, region: usize, market: usize, threshold: i64) -> i64 {
-    let counted = ledger.counted(region, market);
-    let leaves = usize::from(counted.len() == ledger.shape().window);
-    let staying: i64 = counted[leaves..].iter().map(|&p| i64::from(p)).sum();
-    threshold - staying
-}
-
-/// A valid price: around the limits, around the threshold's share of a window and what a sum lacks, the bounds, or anything between.
+/// A valid price: around the limits, around the threshold's share of a window and what the sum lacks to meet it, the bounds, or anything
+/// between.
 fn price(random: &mut Random, ledger: &Ledger, region: usize, market: usize) -> i32 {
     let settings = ledger.settings();
     let share = settings.threshold / ledger.shape().window as i64;
@@ -210,10 +204,10 @@ fn price(random: &mut Random, ledger: &Ledger, region: usize, market: usize) -> 
         1 | 2 => cap + nearby,
         3 | 4 => floor + nearby,
         5 | 6 => share + nearby,
-        7 | 12 => missing(ledger, region, market, settings.threshold) + nearby,
-        8 => most + nearby,
-        9 => -most + nearby,
-        10 => random.between(-most, most),
+        7 | 8 => settings.threshold - staying(ledger, region, market, 1) + nearby,
+        9 => most + nearby,
+        10 => -most + nearby,
+        11 => random.between(-most, most),
         _ => random.between(2 * floor, 2 * cap),
     };
     let price = price.clamp(-most, most) as i32;

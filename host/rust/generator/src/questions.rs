@@ -32,7 +32,7 @@ fn intervals(random: &mut Random, window: usize) -> usize {
 }
 
 /// The total of the counted prices that are left after so many further intervals.
-fn staying(ledger: &Ledger, region: usize, market: usize, intervals: usize) -> i64 {
+pub(crate) fn staying(ledger: &Ledger, region: usize, market: usize, intervals: usize) -> i64 {
     let counted = ledger.counted(region, market);
     let left = (counted.len() + intervals).saturating_sub(ledger.shape().window);
     let staying = &counted[left.min(counted.len())..];
