@@ -85,7 +85,7 @@ def settings_in(image):
 def begun(image):
     """Request 2026-06 of document 02: a ledger's list "may begin with such an image of a book without entries and with
     no period marked, its settings standing for the opening's". Any threshold in range is one; 44 is of opening and
-    setting alone. """
+    setting alone."""
     refuse_image(image)
     if read(image, 20, 4) != 0 or any(image[60:HEAD]):
         raise ValueError("no list begins with an image of a book that has entries or a period marked")

@@ -3,7 +3,7 @@
 use mathlib.Core.Path.{_≡_, refl, sym, _∙_, subst}
 use mathlib.Core.Bool.{Bool, true, false, _&&_}
 use mathlib.Core.List.{List, []}
-use Prim.Native.Nat.{ℕ, _-_, _/_, _%_, _<_}
+use Prim.Native.Nat.{ℕ, _+_, _-_, _*_, _/_, _%_, _<_}
 use native.Mathlib.Nat.{mod-eq-of-lt, add-zero}
 use native.Mathlib.Omega.{arith}
 use borrow.Author.Tests.{eq-eqb}
@@ -50,6 +50,10 @@ module _ (t : Settings) where
   no-marks : replicate 88 0 ≡ marksAt (begin t) 0
   no-marks = sym (tabulate-same 88 _ (λ _. 0) (λ k h. none-administered k) ∙ tabulate-const 0 88)
 
+-- entry 0 is at the first position
+first-at : (first day : ℕ) → first < day → first ≡ (first + 0) % day
+first-at first day h = rw (add-zero first) (sym (mod-eq-of-lt h))
+
 -- ---- any book that rule 10 accepts, without entries and periods
 module _ (b : Book) (ring : List ℤ) (k : Kept b ring) (sized : Sized b) (eight : length (b .parents) ≡ 8) (blank : Blank b) where
   f : Valid b
@@ -64,23 +68,25 @@ module _ (b : Book) (ring : List ℤ) (k : Kept b ring) (sized : Sized b) (eight
 
   blank-begins : Agree (record { book = b; ring = ring }) (begin (settingsIn b))
   unfolding entriesOf before lastSet
-  blank-begins = record {
-    holds = k;
-    sized = sized;
-    eight = eight;
-    regions = refl;
-    services = refl;
-    window = refl;
-    halves = refl;
-    parents = refl;
-    entries = blank .entries;
-    position = rw (add-zero (b .position)) (sym (mod-eq-of-lt (f .position)));
-    threshold = refl;
-    cap = refl;
-    floor = refl;
-    windows = λ r m h l. no-order r m h l ∙ sym (no-prices (settingsIn b) r m);
-    marks = blank .marks ∙ no-marks (settingsIn b);
-  }
+  blank-begins =
+      let none : b .marks ≡ replicate 88 0 = blank .marks in
+      record {
+        holds = k;
+        sized = sized;
+        eight = eight;
+        regions = refl;
+        services = refl;
+        window = refl;
+        halves = refl;
+        parents = refl;
+        entries = blank .entries;
+        position = first-at (b .position) (6 * b .halves) (f .position);
+        threshold = refl;
+        cap = refl;
+        floor = refl;
+        windows = λ r m h l. no-order r m h l ∙ sym (no-prices (settingsIn b) r m);
+        marks = none ∙ no-marks (settingsIn b);
+      }
 
 -- ---- one that was just opened
 begins : (t : Settings) (n : ℕ) → isAccepted (openVerdict t n) ≡ true → length (t .parents) ≡ 8
