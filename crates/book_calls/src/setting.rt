@@ -15,6 +15,7 @@ pub struct Changed {
     pub answer: Answer,
 }
 
+// Whether a threshold that is in range is in whole hundreds of dollars.
 fn in_hundreds(threshold: i64) -> bool
     requires { ⌜ pos 1 ≤ℤ threshold ⌝ }
     ensures { λ x. ⌜ x ≡ inHundreds threshold ⌝ }
@@ -23,7 +24,7 @@ fn in_hundreds(threshold: i64) -> bool
 }
 
 // What openings and settings alike ask of a threshold.
-pub fn threshold_verdict(threshold: i64) -> Answer
+pub(crate) fn threshold_verdict(threshold: i64) -> Answer
     ensures { λ r. ⌜ verdict r ≡ thresholdVerdict threshold ⌝ }
 {
     if !threshold_ok(threshold) {
