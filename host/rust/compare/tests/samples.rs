@@ -41,6 +41,7 @@ fn list_of_calls() {
         "accepted, sum 90000, counted 1, mark 0, entries 2",
         "accepted, sum 85000, counted 1, mark 0, entries 2",
         "refused by 18",
+        "refused by 44",
         "accepted",
         "refused by 19",
         "accepted",
