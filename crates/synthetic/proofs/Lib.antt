@@ -1,0 +1,5 @@
+pub mod Seeds
+pub mod Ways
+pub mod Places
+pub mod Passes
+pub mod Cases

@@ -1,0 +1,2 @@
+pub mod Synthetic
+pub mod Passing
