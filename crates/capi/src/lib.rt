@@ -8,6 +8,7 @@ use book_calls::report::report;
 use book_calls::setting::set_limits;
 use book_calls::setting::set_threshold;
 use entries::enter;
+use face::Drawn;
 use face::Found;
 use face::Kept;
 use face::Left;
@@ -15,6 +16,7 @@ use face::Rows;
 use face::Seen;
 use face::Taken;
 use face::Written;
+use face::drawn_of;
 use face::found_of;
 use face::interval_of;
 use face::kept_of;
@@ -34,6 +36,7 @@ use pricing::indexing::Quarters;
 use pricing::indexing::indexed;
 use replay::replay;
 use schedule::schedule;
+use synthetic::synthesize;
 ghost use mathlib.Core.Path.{_≡_};
 ghost use Prim.Native.Nat.{_≤_};
 ghost use lib.ListN.{length};
@@ -50,8 +53,9 @@ ghost use Rattle.image.specs.Loading.{checked, loaded};
 ghost use Rattle.interval_records.specs.Layout.{intervalOf};
 ghost use Rattle.intervals.specs.Reading.{readInterval};
 ghost use Rattle.interval_writer.specs.Writing.{writeInterval};
+ghost use Rattle.synthetic.specs.Synthetic.{synthesized};
 ghost use Rattle.planning.specs.Left.{intervalsLeft};
-ghost use Rattle.face.specs.Face.{openedOf, changedOf, takenOf, numbersOf, storedOf, loadedOf, readOf, writeOf, plannedOf, rowsOf, energyOf};
+ghost use Rattle.face.specs.Face.{openedOf, changedOf, takenOf, numbersOf, storedOf, loadedOf, readOf, writeOf, synthesizedOf, plannedOf, rowsOf, energyOf};
 ghost use Rattle.replay.specs.Replay.{lentOf, outcome, replayed};
 ghost use Rattle.replay.specs.Promise.{promised};
 ghost use Rattle.capi.specs.Host.{year, indexAnswer};
@@ -200,6 +204,27 @@ pub extern "C" fn guxhamole_interval_write(
     let written = write_interval(book, entry, kind, prices, marks, flows, factors, buffer);
     let size = written.size;
     interval_of(size)
+}
+
+// Fills the four slices with a test load that is drawn from a seed.
+#[no_mangle]
+pub extern "C" fn guxhamole_synthetic(
+    book: Book,
+    seed: u32,
+    entry: u32,
+    kind: u8,
+    prices: &mut [i32],
+    marks: &mut [u8],
+    flows: &mut [i32],
+    factors: &mut [u32],
+) -> Drawn
+    ensures { λ r. ⌜ (let lent = intervalOf 0 0 (now (prices .entry)) (now (marks .entry)) (now (flows .entry)) (now (factors .entry)) in
+        synthesizedOf r book (now (prices .exit)) (now (marks .exit)) (now (flows .exit)) (now (factors .exit))
+        ≡ synthesized book seed entry kind lent) ⌝ }
+{
+    let made = synthesize(book, seed, entry, kind, prices, marks, flows, factors);
+    let draw = made.draw;
+    drawn_of(draw)
 }
 
 // How many further unmarked intervals at a price make a market's sum exceed the threshold, 0 if none of 1 to W does.

@@ -30,14 +30,18 @@ use Rattle.interval_writer.proofs.Places.{write-place, write-book}
 use Rattle.planning.specs.Left as Planning
 use Rattle.planning.specs.Left.{intervalsLeft}
 use Rattle.planning.proofs.Places.{left-place, left-book}
+use Rattle.synthetic.specs.Synthetic as Synthetic
+use Rattle.synthetic.specs.Synthetic.{synthesized}
+use Rattle.synthetic.proofs.Places.{draw-place, draw-book}
 use Rattle.face.specs.declared.Kept.{Kept}
 use Rattle.face.specs.declared.Taken.{Taken}
 use Rattle.face.specs.declared.Seen.{Seen}
 use Rattle.face.specs.declared.Written.{Written}
 use Rattle.face.specs.declared.Found.{Found}
+use Rattle.face.specs.declared.Drawn.{Drawn}
 use Rattle.face.specs.declared.Left.{Left}
-use Rattle.face.specs.Face.{verdictBy, keptBy, takenBy, seenBy, writtenBy, foundBy, leftBy}
-use Rattle.face.specs.Face.{openedOf, changedOf, loadedOf, takenOf, numbersOf, storedOf, readOf, writeOf, plannedOf}
+use Rattle.face.specs.Face.{verdictBy, keptBy, takenBy, seenBy, writtenBy, foundBy, drawnBy, leftBy}
+use Rattle.face.specs.Face.{openedOf, changedOf, loadedOf, takenOf, numbersOf, storedOf, readOf, writeOf, synthesizedOf, plannedOf}
 
 -- ---- calls that hand back a book
 module _ (k : Kept) {v : Verdict} {b : Book} (e : k ≡ keptBy v b) where
@@ -121,6 +125,17 @@ write-by r {v} {n} {c} {after} b i buffer e h =
     let p : v .place ≡ 0 = ap (λ (x : Writing.Outcome). x .verdict .place) h ∙ write-place b i buffer in
     let q : c ≡ b = ap (λ (x : Writing.Outcome). x .book) h ∙ write-book b i buffer in
     ap (λ (x : Written). writeOf x b after) e ∙ (rw (p, q) at h)
+
+-- ---- a test load: none of its refusals has a place
+pub synthesized-by : (r : Drawn) {v : Verdict} {seed entry day : ℕ} {c : Book} {prices flows : List ℤ} {marked factors : List ℕ}
+    (b : Book) (s number kind : ℕ) (lent : Interval) → r ≡ drawnBy v seed entry day
+    → record { verdict = v; seed = seed; book = c; interval = intervalOf entry day prices marked flows factors }
+    ≡ synthesized b s number kind lent
+    → synthesizedOf r b prices marked flows factors ≡ synthesized b s number kind lent
+synthesized-by r {v} {seed} {entry} {day} {c} {prices} {flows} {marked} {factors} b s number kind lent e h =
+    let p : v .place ≡ 0 = ap (λ (x : Synthetic.Outcome). x .verdict .place) h ∙ draw-place b s number kind lent in
+    let q : c ≡ b = ap (λ (x : Synthetic.Outcome). x .book) h ∙ draw-book b s number kind lent in
+    ap (λ (x : Drawn). synthesizedOf x b prices marked flows factors) e ∙ (rw (p, q) at h)
 
 -- ---- a question of intervals left: none of its refusals has a place
 pub left-by : (r : Left) {v : Verdict} {n : ℕ} {c : Book} (b : Book) (ring : List ℤ) (region market : ℕ) (price : ℤ)

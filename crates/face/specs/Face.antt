@@ -17,11 +17,13 @@ use Rattle.intervals.specs.Reading as Reading
 use Rattle.interval_writer.specs.Writing as Writing
 use Rattle.planning.specs.Left as Planning
 use Rattle.schedule.specs.Schedule as Schedule
+use Rattle.synthetic.specs.Synthetic as Synthetic
 use Rattle.face.specs.declared.Kept.{Kept}
 use Rattle.face.specs.declared.Taken.{Taken}
 use Rattle.face.specs.declared.Seen.{Seen}
 use Rattle.face.specs.declared.Written.{Written}
 use Rattle.face.specs.declared.Found.{Found}
+use Rattle.face.specs.declared.Drawn.{Drawn}
 use Rattle.face.specs.declared.Left.{Left}
 use Rattle.face.specs.declared.Rows.{Rows}
 
@@ -65,6 +67,15 @@ readOf r book prices marked flows factors = record {
 abbrev pub writeOf : Written → Book → List ℕ → Writing.Outcome
 writeOf r book buffer = record { verdict = verdictBy (r .number) 0; length = r .length; book = book; buffer = buffer }
 
+-- 2026-07: "10, then 11 over the filled slices", which have no place; the book is the caller's
+abbrev pub synthesizedOf : Drawn → Book → List ℤ → List ℕ → List ℤ → List ℕ → Synthetic.Outcome
+synthesizedOf r book prices marked flows factors = record {
+  verdict = verdictBy (r .number) 0;
+  seed = r .seed;
+  book = book;
+  interval = intervalOf (r .entry) (r .kind) prices marked flows factors;
+}
+
 -- 2026-02: "10, 11, 21 and store's 22", 43, which have no place; the book is the caller's
 abbrev pub plannedOf : Left → Book → Planning.Outcome
 plannedOf r book = record { verdict = verdictBy (r .number) 0; intervals = r .intervals; book = book }
@@ -91,6 +102,9 @@ writtenBy v length = record { number = v .number; length = length }
 
 abbrev pub foundBy : Verdict → ℕ → ℕ → ℕ → Found
 foundBy v next entry kind = record { number = v .number; next = next; entry = entry; kind = kind }
+
+abbrev pub drawnBy : Verdict → ℕ → ℕ → ℕ → Drawn
+drawnBy v seed entry kind = record { number = v .number; seed = seed; entry = entry; kind = kind }
 
 abbrev pub leftBy : Verdict → ℕ → Left
 leftBy v intervals = record { number = v .number; intervals = intervals }

@@ -11,6 +11,7 @@ use entries::Publication;
 use image::storing::Image;
 use interval_writer::writing::Size;
 use schedule::Making;
+use synthetic::Draw;
 ghost use mathlib.Core.Path.{_≡_};
 ghost use Rattle.book.specs.Record as Record;
 ghost use Rattle.book.specs.Record.{verdict};
@@ -21,7 +22,8 @@ ghost use Rattle.intervals.specs.Reading as Intervals;
 ghost use Rattle.interval_writer.specs.Writing as Writing;
 ghost use Rattle.planning.specs.Left as Planning;
 ghost use Rattle.schedule.specs.Schedule.{verdictOf, answered};
-ghost use Rattle.face.specs.Face.{keptBy, takenBy, seenBy, writtenBy, foundBy, leftBy, rowsOf};
+ghost use Rattle.synthetic.specs.Synthetic as Synthetic;
+ghost use Rattle.face.specs.Face.{keptBy, takenBy, seenBy, writtenBy, foundBy, drawnBy, leftBy, rowsOf};
 
 // `guxhamole_kept`: a call that hands back a book and nothing else.
 #[repr(C)]
@@ -62,6 +64,15 @@ pub struct Written {
 pub struct Found {
     pub number: u32,
     pub next: u64,
+    pub entry: u32,
+    pub kind: u32,
+}
+
+// `guxhamole_drawn`: the last seed of a test load, with its entry number and its day kind. Its refusals have no place.
+#[repr(C)]
+pub struct Drawn {
+    pub number: u32,
+    pub seed: u32,
     pub entry: u32,
     pub kind: u32,
 }
@@ -188,6 +199,28 @@ pub fn found_of(found: intervals::reading::Found) -> Found
         intervals::reading::Found::Refused(refusal) => Found {
             number: number(refusal),
             next: 0,
+            entry: 0,
+            kind: 0,
+        },
+    }
+}
+
+pub fn drawn_of(draw: Draw) -> Drawn
+    ensures { λ r. ⌜ r ≡ drawnBy (Synthetic.verdict draw) (Synthetic.seedIn draw) (Synthetic.numberIn draw) (Synthetic.kindIn draw) ⌝ }
+{
+    match draw {
+        Draw::Made { seed, number, kind } => {
+            let day = kind as u32;
+            Drawn {
+                number: 0,
+                seed,
+                entry: number,
+                kind: day,
+            }
+        }
+        Draw::Refused(refusal) => Drawn {
+            number: number(refusal),
+            seed: 0,
             entry: 0,
             kind: 0,
         },
