@@ -5,12 +5,14 @@
 //   n a        new records, and bytes after those that are there, a number a byte
 //   r          read the interval at a place; -1 is the last of all places
 //   i          write an interval: number, day kind, room in the buffer, which holds sevens
+//   s          fill what is lent with a synthetic interval: seed, number, day kind
 //   =          a heading to print; lines that begin with anything else are for the reader
 use crate::lists::byte_list;
 use crate::lists::number_list;
 use crate::lists::signed_list;
 use book::record::Book;
 use book::record::closed;
+use book::record::ring_size;
 use book_calls::opening::open;
 use interval_writer::writing::Size;
 use interval_writer::writing::write_interval;
@@ -28,6 +30,9 @@ use stage::reading::numbers;
 use stage::reading::settings;
 use stage::reading::signed_numbers;
 use stage::reading::size;
+use stage::reading::within;
+use synthetic::Draw;
+use synthetic::synthesize;
 ghost use mathlib.Core.Path.{_≡_};
 ghost use Prim.Native.Nat.{_<_, _≤_};
 ghost use lib.ListN.{length, take};
@@ -58,9 +63,12 @@ fn place(text: &[u8], at: usize) -> usize {
     size(n[0])
 }
 
+// A book of at most eight prices, over the ring that it asks for.
 fn opened(text: &[u8], at: usize, parents_at: usize) -> Book {
-    let mut ring = [0i32; 2];
-    let o = open(settings(text, at, parents_at), &mut ring);
+    let mut ring = [0i32; 8];
+    let s = settings(text, at, parents_at);
+    let n = within(ring_size(s.regions, s.services, s.window), &ring);
+    let o = open(s, &mut ring[..n]);
     let answer = o.answer;
     answered(b"open", answer);
     o.book
@@ -83,7 +91,7 @@ fn told(found: Found) {
 }
 
 // So many of a list's bytes as there are.
-fn within(n: usize, list: &[u8]) -> usize
+fn bytes_within(n: usize, list: &[u8]) -> usize
     ensures { λ r. ⌜ r ≤ length (now (list .entry)) ⌝ }
     ensures { λ r. ⌜ r ≡ length (take r (now (list .entry))) ⌝ }
 {
@@ -100,7 +108,7 @@ fn taken(book: Book, records: &[u8], n: usize, text: &[u8], at: usize, lent: [us
     let m = bytes(text, lent[1], &mut marks);
     let f = signed_numbers(text, lent[2], &mut flows);
     let l = numbers(text, lent[3], &mut factors);
-    let end = within(n, records);
+    let end = bytes_within(n, records);
     let t = read_interval(
         book,
         &records[..end],
@@ -141,7 +149,7 @@ fn put(book: Book, text: &[u8], at: usize, lent: [usize; 8]) -> Book {
     let m = bytes(text, lent[1], &mut marks);
     let f = signed_numbers(text, lent[2], &mut flows);
     let l = numbers(text, lent[3], &mut factors);
-    let end = within(size(n[2]), &buffer);
+    let end = bytes_within(size(n[2]), &buffer);
     let w = write_interval(
         book,
         n[0],
@@ -159,6 +167,54 @@ fn put(book: Book, text: &[u8], at: usize, lent: [usize; 8]) -> Book {
     w.book
 }
 
+// The last seed with the number and day kind that were given; or the refusal.
+fn told_draw(draw: Draw) {
+    say(b"synthetic");
+    match draw {
+        Draw::Made { seed, number, kind } => {
+            say(b" seed");
+            stage::printing::number(seed as u64);
+            say(b" number");
+            stage::printing::number(number as u64);
+            say(b" kind");
+            stage::printing::number(kind as u64);
+        }
+        Draw::Refused(r) => refusal(r),
+    }
+}
+
+// A test load into what the lines say, and what they then hold.
+fn drawn(book: Book, text: &[u8], at: usize, lent: [usize; 8]) -> Book {
+    let mut n = [0u32; 3];
+    let mut prices = [0i32; 8];
+    let mut marks = [0u8; 64];
+    let mut flows = [0i32; 8];
+    let mut factors = [0u32; 8];
+    numbers(text, at, &mut n);
+    let p = signed_numbers(text, lent[0], &mut prices);
+    let m = bytes(text, lent[1], &mut marks);
+    let f = signed_numbers(text, lent[2], &mut flows);
+    let l = numbers(text, lent[3], &mut factors);
+    let s = synthesize(
+        book,
+        n[0],
+        n[1],
+        byte(n[2]),
+        &mut prices[..p],
+        &mut marks[..m],
+        &mut flows[..f],
+        &mut factors[..l],
+    );
+    let draw = s.draw;
+    told_draw(draw);
+    signed_list(b"; prices", &prices, p);
+    byte_list(b"; marks", &marks, m);
+    signed_list(b"; flows", &flows, f);
+    number_list(b"; factors", &factors, l);
+    say(b"\n");
+    s.book
+}
+
 // The book after a line.
 fn called(
     book: Book,
@@ -174,6 +230,7 @@ fn called(
         b'c' => closed(),
         b'r' => taken(book, records, n, text, at, lent),
         b'i' => put(book, text, at, lent),
+        b's' => drawn(book, text, at, lent),
         _ => book,
     }
 }

@@ -1,5 +1,5 @@
-// Reads and writes the interval records of its standard input, call by call: the worked cases of request 2026-01 against the stored output.
-// The cases, and the request's words beside them, are in the file stdin.
+// Reads and writes the interval records of its standard input and draws test loads, call by call: the worked cases of requests 2026-01 and
+// 2026-07 against the stored output. The cases, and the requests' words beside them, are in the file stdin.
 mod lines;
 mod lists;
 
