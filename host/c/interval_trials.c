@@ -4,8 +4,6 @@
 
 #include "make.h"
 
-#include <stdio.h>
-#include <stdlib.h>
 #include <string.h>
 
 static size_t interval_length(const guxhamole_book *book)
@@ -17,25 +15,6 @@ static size_t interval_length(const guxhamole_book *book)
 static size_t record_place(const struct trial *trial, size_t record)
 {
     return record == 0 ? trial->at : trial->at + 12 + (record - 1) * (16 + 4 * (trial->book.services + (size_t)1));
-}
-
-struct lengths right_lengths(const guxhamole_book *book)
-{
-    struct lengths right = {GUXHAMOLE_PRICES(book->regions, book->services), book->regions, book->regions, book->regions};
-    return right;
-}
-
-static guxhamole_book any_book(void)
-{
-    static uint8_t image[148 + 4 * 88];
-    static int32_t ring[88];
-    size_t length = any_image(1, image);
-    guxhamole_kept kept = guxhamole_load(image, length, ring, GUXHAMOLE_RING(image[6], image[7], 1));
-    if (kept.number != 0) {
-        printf("intervals test: a book was refused by %u\n", kept.number);
-        exit(1);
-    }
-    return kept.book;
 }
 
 /* A number of any length in bits. */
@@ -174,21 +153,4 @@ void damage_records(struct trial *trial)
     default:
         damage_field(trial);
     }
-}
-
-void damage_book(struct trial *trial)
-{
-    uint8_t bytes[sizeof trial->book];
-    memcpy(bytes, &trial->book, sizeof bytes);
-    size_t at = below(below(2) ? 72 : sizeof bytes);
-    bytes[at] = (uint8_t)(below(2) ? below(12) : next());
-    memcpy(&trial->book, bytes, sizeof bytes);
-    trial->upward = 0;
-}
-
-void damage_lengths(struct trial *trial)
-{
-    size_t *lengths[] = {&trial->lent.prices, &trial->lent.marks, &trial->lent.flows, &trial->lent.factors};
-    size_t *length = lengths[below(4)];
-    *length = below(3) == 0 ? below(9) : below(2) ? *length + 1 : *length - 1;
 }

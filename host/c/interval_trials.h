@@ -3,15 +3,9 @@
 #ifndef INTERVAL_TRIALS_H
 #define INTERVAL_TRIALS_H
 
-#include "guxhamole.h"
-#include "independent_interval.h"
+#include "interval_slices.h"
 
 enum { INTERVAL_MOST = GUXHAMOLE_INTERVAL(8, 10), TRIAL_BYTES = INTERVAL_MOST + 100 };
-
-/* The lengths of an entry's slices. */
-struct lengths {
-    size_t prices, marks, flows, factors;
-};
 
 struct trial {
     guxhamole_book book;
@@ -23,18 +17,10 @@ struct trial {
     size_t room;       /* for a writer */
 };
 
-struct lengths right_lengths(const guxhamole_book *book);
-
 /* The book of a random image, and an interval for it, ranges aside; as records with other bytes round them. */
 void any_trial(struct trial *trial);
 
 /* Damages the records, or asks for another place. */
 void damage_records(struct trial *trial);
-
-/* Changes a byte of the book, which may yet be one. */
-void damage_book(struct trial *trial);
-
-/* Makes one of the lengths wrong. */
-void damage_lengths(struct trial *trial);
 
 #endif

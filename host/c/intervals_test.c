@@ -5,6 +5,7 @@
 #include "guarded.h"
 #include "guxhamole.h"
 #include "independent_interval.h"
+#include "interval_slices.h"
 #include "interval_trials.h"
 #include "make.h"
 
@@ -23,79 +24,15 @@ static void differs(const char *what, uint64_t from)
     exit(1);
 }
 
-struct slices {
-    int32_t *prices;
-    uint8_t *marks;
-    int32_t *flows;
-    uint32_t *factors;
-};
-
-/* Slices of these lengths, for a reader to fill; each place holds OLD. */
-static struct slices to_fill(struct lengths lent)
-{
-    struct slices slices = {(int32_t *)guarded(4 * lent.prices), (uint8_t *)guarded(lent.marks), (int32_t *)guarded(4 * lent.flows),
-                            (uint32_t *)guarded(4 * lent.factors)};
-    for (size_t i = 0; i < lent.prices; i++)
-        slices.prices[i] = OLD;
-    for (size_t i = 0; i < lent.marks; i++)
-        slices.marks[i] = OLD;
-    for (size_t i = 0; i < lent.flows; i++)
-        slices.flows[i] = OLD;
-    for (size_t i = 0; i < lent.factors; i++)
-        slices.factors[i] = OLD;
-    return slices;
-}
-
-/* Slices of these lengths, for a writer to read: the interval's numbers as far as it has them. */
-static struct slices to_read(struct lengths lent, const struct independent_interval *interval)
-{
-    struct slices slices = {(int32_t *)guarded_fixed(4 * lent.prices), (uint8_t *)guarded_fixed(lent.marks),
-                            (int32_t *)guarded_fixed(4 * lent.flows), (uint32_t *)guarded_fixed(4 * lent.factors)};
-    for (size_t i = 0; i < lent.prices && i < 88; i++)
-        slices.prices[i] = interval->prices[i];
-    for (size_t i = 0; i < lent.marks && i < 8; i++)
-        slices.marks[i] = interval->marks[i];
-    for (size_t i = 0; i < lent.flows && i < 8; i++)
-        slices.flows[i] = interval->flows[i];
-    for (size_t i = 0; i < lent.factors && i < 8; i++)
-        slices.factors[i] = interval->factors[i];
-    return slices;
-}
-
-/* Whether the slices hold an interval's numbers, or what they held before where there is none. */
-static int holds(const struct slices *slices, struct lengths lent, const struct independent_interval *interval)
-{
-    int same = 1;
-    for (size_t i = 0; i < lent.prices; i++)
-        same &= slices->prices[i] == (interval ? interval->prices[i] : (int32_t)OLD);
-    for (size_t i = 0; i < lent.marks; i++)
-        same &= slices->marks[i] == (interval ? interval->marks[i] : (uint8_t)OLD);
-    for (size_t i = 0; i < lent.flows; i++)
-        same &= slices->flows[i] == (interval ? interval->flows[i] : (int32_t)OLD);
-    for (size_t i = 0; i < lent.factors; i++)
-        same &= slices->factors[i] == (interval ? interval->factors[i] : (uint32_t)OLD);
-    return same;
-}
-
-/* 10 or 11, or 0: a book is one where the report takes it, which typed_test.c holds to each bound. */
-static uint32_t lent_refusal(const struct trial *trial)
-{
-    struct lengths right = right_lengths(&trial->book), lent = trial->lent;
-    if (guxhamole_report(trial->book, 0, 0).number == GUXHAMOLE_BOOK)
-        return GUXHAMOLE_BOOK;
-    return lent.prices != right.prices || lent.marks != right.marks || lent.flows != right.flows || lent.factors != right.factors
-               ? GUXHAMOLE_LENGTH : GUXHAMOLE_ACCEPTED;
-}
-
 /* Reads both ways; answers what was found, and the independent interval. */
 static guxhamole_found read_alike(const struct trial *trial, struct independent_interval *interval, uint64_t from)
 {
     uint8_t *records = (uint8_t *)guarded_fixed(trial->length);
-    struct slices slices = to_fill(trial->lent);
+    struct slices slices = slices_to_fill(trial->lent);
     size_t next_place = 0;
     memcpy(records, trial->records, trial->length);
     guarded_keep();
-    uint32_t want = lent_refusal(trial);
+    uint32_t want = lent_refusal(&trial->book, trial->lent);
     if (want == 0)
         want = independent_interval_read(trial->book.regions, trial->book.services, records, trial->length, trial->at, interval,
                                          &next_place);
@@ -107,7 +44,7 @@ static guxhamole_found read_alike(const struct trial *trial, struct independent_
     if (want == 0 ? found.next != next_place || found.entry != interval->entry || found.day_kind != interval->day_kind
                   : found.next != 0 || found.entry != 0 || found.day_kind != 0)
         differs("a reading's values", from);
-    if (!holds(&slices, trial->lent, want == 0 ? interval : NULL) || !guarded_whole())
+    if (!slices_hold(&slices, trial->lent, want == 0 ? interval : NULL) || !guarded_whole())
         differs("a reading's slices, or a guard", from);
     guarded_free();
     read_seen[want]++;
@@ -120,11 +57,11 @@ static guxhamole_stored write_alike(const struct trial *trial, uint8_t *told, ui
     static const unsigned upward[] = {0, 1, 2, 3, 4, 5, 6, 7};
     const struct independent_interval *interval = &trial->interval;
     uint8_t records[TRIAL_BYTES], *buffer = (uint8_t *)guarded(trial->room);
-    struct slices slices = to_read(trial->lent, interval);
+    struct slices slices = slices_to_read(trial->lent, interval);
     guarded_keep();
     memset(buffer, OLD, trial->room);
     memset(records, OLD, sizeof records);
-    uint32_t want = lent_refusal(trial);
+    uint32_t want = lent_refusal(&trial->book, trial->lent);
     size_t length = want == 0 ? GUXHAMOLE_INTERVAL(trial->book.regions, trial->book.services) : 0;
     if (want == 0 && trial->room < length)
         want = GUXHAMOLE_BUFFER;
@@ -175,10 +112,12 @@ static void trials(void)
         any_trial(&trial);
         if (below(2))
             damage_records(&trial);
+        if (below(12) == 0) {
+            damage_book(&trial.book);
+            trial.upward = 0;
+        }
         if (below(12) == 0)
-            damage_book(&trial);
-        if (below(12) == 0)
-            damage_lengths(&trial);
+            damage_lengths(&trial.lent);
         write_alike(&trial, told, from);
         guxhamole_found found = read_alike(&trial, &interval, from);
         if (found.number == 0) {
