@@ -1,8 +1,8 @@
 /* The functions that a host in C11 or C++17 calls: a book of administered prices that the host keeps in its own memory, and
-   beside it the intervals left before a period, the records of intervals, the image check, the schedule maker, the index, the
-   amount text and the replay of lists of calls. Link with libcapi.a, which `rt staticlib capi` writes to target/staticlib, for
-   x86-64 Linux alone. docs/REFUSALS.md has every number that they answer: its meaning, its place and what a host should do.
-   host/c/box.c is a host to copy.
+   beside it the intervals left before a period, the records of intervals, synthetic intervals for tests, the image check, the
+   schedule maker, the index, the amount text and the replay of lists of calls. Link with libcapi.a, which `rt staticlib capi`
+   writes to target/staticlib, for x86-64 Linux alone. docs/REFUSALS.md has every number that they answer: its meaning, its place
+   and what a host should do. host/c/box.c is a host to copy.
 
    Proved of every function, for all arguments: it reads and writes only what it is lent, allocates nothing, keeps no pointer
    and no state of its own, ends, and its whole outcome (the answer, the book that it hands back and the contents of every
@@ -16,8 +16,8 @@
    host, it
    - begins with an accepted guxhamole_open, or with an accepted guxhamole_load of such an image;
    - hands each call the book that the call before handed back, accepted or refused; guxhamole_report, guxhamole_store,
-     guxhamole_intervals_left and the two calls of interval records hand none back and change none, so that the next call gets
-     the same book again;
+     guxhamole_intervals_left, the two calls of interval records and guxhamole_synthetic hand none back and change none, so that
+     the next call gets the same book again;
    - lends the ring that the opening or load was lent, at its full length, and lets these calls alone write to it and to the
      book (both may be copied and moved between calls: what they hold counts, not where they stand);
    - restarts by a guxhamole_store into a long enough buffer and a guxhamole_load, from exactly the `length` bytes that were
@@ -164,6 +164,13 @@ typedef struct guxhamole_found {
     uint32_t day_kind; /* 0..255: as the record has it */
 } guxhamole_found;
 
+typedef struct guxhamole_drawn {
+    uint32_t number;
+    uint32_t seed;     /* the last s: what the next interval is drawn from */
+    uint32_t entry;    /* the interval's number, as it was given */
+    uint32_t day_kind; /* 0..255: likewise */
+} guxhamole_drawn;
+
 typedef struct guxhamole_rows {
     uint32_t number;
     uint64_t place;
@@ -253,6 +260,30 @@ guxhamole_stored guxhamole_interval_write(guxhamole_book book, uint32_t entry, u
                                           const int32_t *flows, size_t flows_length,
                                           const uint32_t *factors, size_t factors_length,
                                           uint8_t *buffer, size_t buffer_length);
+
+/* Draws a synthetic interval, a test load that anyone can remake from its seed, into the slices that an entry takes. Each draw
+   replaces s, at first the seed, by (s x 1,664,525 + 1,013,904,223) mod 2^32, and gives d = s div 65,536. The R x M prices are
+   drawn in their order, then flow and factor of region 0, flow and factor of region 1 and so on, whether a region has a parent or
+   not: R x M + 2 x R draws. The last s is handed back, as the seed of the next interval.
+     energy    1,500,000 if d < 64, else d mod 20,000 - 2,000
+     service   d mod 3,000
+     flow      d mod 2,001 - 1,000
+     factor    10,000 + d mod 2,000
+     mark      0, for which nothing is drawn
+   What is lent and given:
+     book                    whose R and S it has; which entry is its next doesn't matter
+     seed                    any, 0 too
+     entry, day_kind         not tested: handed back as they are given, for the entry to refuse
+     prices                  R x M, at region x M + market
+     marks, flows, factors   R each
+   Refusals: 10, 11. Refused: the four slices as they were, and zeros. The four slices must not overlap one another.
+   Proved: whatever the seed and the size, an entry refuses nothing of it by 15, 16 or 17.
+   It is no call of the list of which the ledger machine is told: it takes nothing, and the book stays as it was. */
+guxhamole_drawn guxhamole_synthetic(guxhamole_book book, uint32_t seed, uint32_t entry, uint8_t day_kind,
+                                    int32_t *prices, size_t prices_length,
+                                    uint8_t *marks, size_t marks_length,
+                                    int32_t *flows, size_t flows_length,
+                                    uint32_t *factors, size_t factors_length);
 
 /* Writes the book's image as the first bytes of the buffer, and answers its length; the bytes after it stay.
    Refusals: 10, 11, 22, 23. Refused: the buffer as it was. GUXHAMOLE_IMAGE_MAX(R, S, W) bytes always suffice. */
@@ -383,6 +414,11 @@ GUXHAMOLE_AT(found, number, 0);
 GUXHAMOLE_AT(found, next, 8);
 GUXHAMOLE_AT(found, entry, 16);
 GUXHAMOLE_AT(found, day_kind, 20);
+GUXHAMOLE_SIZE(drawn, 16);
+GUXHAMOLE_AT(drawn, number, 0);
+GUXHAMOLE_AT(drawn, seed, 4);
+GUXHAMOLE_AT(drawn, entry, 8);
+GUXHAMOLE_AT(drawn, day_kind, 12);
 GUXHAMOLE_SIZE(rows, 400);
 GUXHAMOLE_AT(rows, number, 0);
 GUXHAMOLE_AT(rows, place, 8);

@@ -73,8 +73,8 @@ static unsigned position(const struct independent_ledger *ledger)
     return (ledger->settings.first + ledger->entries) % (6u * ledger->settings.halves);
 }
 
-/* At the next entry: triggered, and not released since. */
-static int administered(const struct independent_ledger *ledger, unsigned region, unsigned market)
+/* Triggered, and not released since. */
+int independent_ledger_administered(const struct independent_ledger *ledger, unsigned region, unsigned market)
 {
     return ledger->triggered[11 * region + market] > ledger->released[11 * region + market];
 }
@@ -97,9 +97,9 @@ static int32_t published(const struct independent_ledger *ledger, unsigned regio
 {
     const guxhamole_settings *settings = &ledger->settings;
     if (market == 0)
-        return administered(ledger, region, 0) ? held(effective, settings->floor, settings->cap) : effective;
+        return independent_ledger_administered(ledger, region, 0) ? held(effective, settings->floor, settings->cap) : effective;
     for (unsigned other = 0; other <= settings->services; other++)
-        if (administered(ledger, region, other) && effective > settings->cap)
+        if (independent_ledger_administered(ledger, region, other) && effective > settings->cap)
             return settings->cap;
     return effective;
 }
@@ -163,7 +163,7 @@ guxhamole_reading independent_ledger_report(const struct independent_ledger *led
     }
     size_t window = ledger->settings.window, count = ledger->counts[region];
     reading.counted = (uint32_t)(count < window ? count : window);
-    reading.mark = (uint32_t)administered(ledger, region, market);
+    reading.mark = (uint32_t)independent_ledger_administered(ledger, region, market);
     reading.entries = ledger->entries;
     reading.sum = market_sum(ledger, region, market);
     return reading;

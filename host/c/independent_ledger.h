@@ -33,6 +33,9 @@ uint32_t independent_ledger_publish(const struct independent_ledger *ledger, uin
 /* Takes an accepted entry's prices and marks. */
 void independent_ledger_enter(struct independent_ledger *ledger, const int32_t *prices, const uint8_t *marks);
 
+/* Whether the market is administered at the next entry. */
+int independent_ledger_administered(const struct independent_ledger *ledger, unsigned region, unsigned market);
+
 guxhamole_reading independent_ledger_report(const struct independent_ledger *ledger, uint32_t region, uint32_t market);
 
 /* The total of a market's last W prices, or of all if there are fewer. */

@@ -67,6 +67,11 @@ static void use_read(void)
                                    REGIONS).number;
 }
 
+static void use_synthetic(void)
+{
+    told = guxhamole_synthetic(book, 2026, 0, 0, table, PRICES, read_marks, REGIONS, numbers, REGIONS, room, REGIONS).number;
+}
+
 static void use_replay(void)
 {
     told = guxhamole_replay(calls, calls_length, answers, sizeof answers, other, RING, ring, RING, image, LONGEST, numbers,
@@ -215,7 +220,8 @@ int main(void)
 {
     static struct use uses[] = {{"threshold", use_threshold, 0}, {"limits", use_limits, 0}, {"report", use_report, 0},
                                 {"intervals left", use_left, 0}, {"store", use_store, 0}, {"image check", use_check, 0},
-                                {"schedule", use_schedule, 0}, {"interval write", use_write, 0}, {"open", use_open, 0}};
+                                {"schedule", use_schedule, 0}, {"interval write", use_write, 0}, {"synthetic", use_synthetic, 0},
+                                {"open", use_open, 0}};
     static struct use others[] = {{"amount text", use_text, 0}, {"index", use_index, 0}, {"abi", use_abi, 0}};
     static struct use replay = {"replay", use_replay, 0};
     guxhamole_settings own = {REGIONS, SERVICES, WINDOW, HALVES, 0, {255, 0, 1, 2, 3, 4, 5, 6}, 10000, 60000, -60000};
