@@ -1,5 +1,5 @@
 /* The foundry's box, an example to copy: `box IMAGE` keeps one book of the real market, reads lines (box_lines.h) from standard
-   input and answers them on standard output. The one line that builds it is in host/c/README.md.
+   input and answers them on standard output. The command that builds it is in host/c/README.md.
 
    Each line is answered by one line that begins at its first column, details indented above it:
      accepted ..                    an interval, threshold or limits; the book with it is saved (box_files.h), safe from a crash
@@ -26,6 +26,7 @@
    threshold and limits again. A feeder of a file of records goes on after a crash by the same number and the place: an interval has
    INTERVAL bytes (box_market.h), so the next one stands at PLACE + INTERVAL x (entries taken - number of the interval at PLACE).
    A file that was refused at place P is mended and sent again from there. */
+#include "box_answers.h"
 #include "box_files.h"
 #include "box_lines.h"
 #include "box_market.h"
@@ -34,12 +35,9 @@
 
 #include <errno.h>
 #include <inttypes.h>
-#include <stdarg.h>
 #include <stdio.h>
 #include <stdlib.h>
 #include <string.h>
-
-enum ending { ENDED = 0, NOT_STARTED = 1, BROKEN = 2 };
 
 struct box {
     guxhamole_book book;
@@ -51,58 +49,18 @@ struct box {
     struct box_files files;
 };
 
-/* What a box has said is with its reader before it goes on; a box that cannot speak ends. */
-static void flush(void)
-{
-    if (fflush(stdout) != 0)
-        exit(BROKEN);
-}
-
-#if defined __GNUC__
-__attribute__((format(printf, 1, 2)))
-#endif
-static void answer(const char *format, ...)
-{
-    va_list values;
-    va_start(values, format);
-    box_step("before answer");
-    vprintf(format, values);
-    putchar('\n');
-    flush();
-    box_step("after answer");
-    va_end(values);
-}
-
-static void refused(uint32_t number, uint64_t place)
-{
-    char text[REFUSAL_TEXT];
-    refusal_text(number, place, text);
-    answer("%s", text);
-}
-
 /* Saves the book. A box whose book and file would part company ends, and the next start goes on from the file. */
 static void save(struct box *box)
 {
     guxhamole_stored stored = guxhamole_store(box->book, box->ring, RING, box->image, IMAGE_MAX);
     if (stored.number != GUXHAMOLE_ACCEPTED) {
-        refused(stored.number, 0);
+        answer_refused(stored.number, 0);
         exit(BROKEN);
     }
     if (!files_save(&box->files, box->image, stored.length)) {
         answer("not saved: %s", strerror(errno));
         exit(BROKEN);
     }
-}
-
-static void tell_periods(const guxhamole_book *before, const guxhamole_book *after)
-{
-    for (int region = 0; region < REGIONS; region++)
-        for (int market = 0; market < MARKETS; market++) {
-            int place = 11 * region + market;
-            if (after->marks[place] != before->marks[place])
-                printf("  region %d market %d: %s from interval %" PRIu32 " on\n", region, market,
-                       after->marks[place] ? "administered" : "free", after->entries);
-        }
 }
 
 static void tell_prices(const struct line *line, const int32_t *table)
@@ -203,25 +161,11 @@ static void set(struct box *box, guxhamole_kept kept, const char *what)
 {
     box->book = kept.book;
     if (kept.number != GUXHAMOLE_ACCEPTED) {
-        refused(kept.number, kept.place);
+        answer_refused(kept.number, kept.place);
         return;
     }
     save(box);
     answer("accepted %s", what);
-}
-
-static void report(const struct box *box, const struct line *line)
-{
-    guxhamole_reading reading = guxhamole_report(box->book, line->region, line->market);
-    if (reading.number != GUXHAMOLE_ACCEPTED) {
-        refused(reading.number, 0);
-        return;
-    }
-    uint8_t text[GUXHAMOLE_TEXT_MAX];
-    size_t length = guxhamole_amount_text(reading.sum, text, sizeof text);
-    answer("region %" PRIu32 " market %" PRIu32 ": %s, sum %.*s of %" PRIu32 " prices, %" PRIu32 " entries taken", line->region,
-           line->market, reading.mark ? "administered" : "free", (int)length, (const char *)text, reading.counted,
-           reading.entries);
 }
 
 /* A question: nothing is entered, and nothing saved. Where no number of intervals does it, the line has 0 in the number's place. */
@@ -229,7 +173,7 @@ static void intervals_left(const struct box *box, const struct line *line)
 {
     guxhamole_left left = guxhamole_intervals_left(box->book, box->ring, RING, line->region, line->market, line->price);
     if (left.number != GUXHAMOLE_ACCEPTED) {
-        refused(left.number, 0);
+        answer_refused(left.number, 0);
         return;
     }
     uint8_t price[GUXHAMOLE_TEXT_MAX], threshold[GUXHAMOLE_TEXT_MAX];
@@ -257,7 +201,7 @@ static void take(struct box *box, const struct line *line)
         take_row(box, line);
         break;
     case LINE_REPORT:
-        report(box, line);
+        answer_report(&box->book, line->region, line->market);
         break;
     case LINE_LEFT:
         intervals_left(box, line);
@@ -314,7 +258,7 @@ static enum loading load(struct box *box, const char *path, const char *name)
     guxhamole_kept kept = guxhamole_load(box->image, (size_t)length, box->ring, RING);
     if (kept.number != GUXHAMOLE_ACCEPTED) {
         printf("%s: ", name);
-        refused(kept.number, kept.place);
+        answer_refused(kept.number, kept.place);
         return UNUSABLE;
     }
     if (!same_market(&kept.book)) {
@@ -331,7 +275,7 @@ static int open_new(struct box *box)
     guxhamole_settings settings = BOX_SETTINGS;
     guxhamole_kept kept = guxhamole_open(settings, box->ring, RING);
     if (kept.number != GUXHAMOLE_ACCEPTED) {
-        refused(kept.number, kept.place);
+        answer_refused(kept.number, kept.place);
         return 0;
     }
     box->book = kept.book;
@@ -341,8 +285,8 @@ static int open_new(struct box *box)
 
 static int start(struct box *box, const char *image)
 {
-    if (guxhamole_abi() != GUXHAMOLE_ABI || !files_named(&box->files, image)) {
-        answer("not started: another archive than the header's, or a file name that is too long");
+    if (!files_named(&box->files, image)) {
+        answer("not started: a file name that is too long");
         return 0;
     }
     enum loading now = load(box, box->files.image, "IMAGE");
@@ -365,7 +309,9 @@ int main(int count, char **words)
         fprintf(stderr, "usage: box IMAGE < lines\n");
         return NOT_STARTED;
     }
-    if (!start(&box, words[1]))
+    if (guxhamole_abi() != GUXHAMOLE_ABI) {
+        answer("not started: another archive than the header's");
         return NOT_STARTED;
-    return run(&box);
+    }
+    return start(&box, words[1]) ? run(&box) : NOT_STARTED;
 }
