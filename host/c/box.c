@@ -1,5 +1,6 @@
 /* The foundry's box, an example to copy: `box IMAGE` keeps one book of the real market, reads lines (box_lines.h) from standard
-   input and answers them on standard output. The command that builds it is in host/c/README.md.
+   input and answers them on standard output. The command that builds it is in host/c/README.md. `box commission ..` plays a test
+   load on a book in memory instead (box_commission.h); an image of that name would have to be given as ./commission.
 
    Each line is answered by one line that begins at its first column, details indented above it:
      accepted ..                    an interval, threshold or limits; the book with it is saved (box_files.h), safe from a crash
@@ -27,6 +28,7 @@
    INTERVAL bytes (box_market.h), so the next one stands at PLACE + INTERVAL x (entries taken - number of the interval at PLACE).
    A file that was refused at place P is mended and sent again from there. */
 #include "box_answers.h"
+#include "box_commission.h"
 #include "box_files.h"
 #include "box_lines.h"
 #include "box_market.h"
@@ -305,13 +307,17 @@ static int start(struct box *box, const char *image)
 int main(int count, char **words)
 {
     static struct box box;
-    if (count != 2) {
-        fprintf(stderr, "usage: box IMAGE < lines\n");
+    struct commission commission;
+    int commissioned = count > 1 && strcmp(words[1], "commission") == 0;
+    if (commissioned ? !commission_parsed(count - 2, words + 2, &commission) : count != 2) {
+        fprintf(stderr, "usage: box IMAGE < lines, or box commission SEED DAYS [THRESHOLD]\n");
         return NOT_STARTED;
     }
     if (guxhamole_abi() != GUXHAMOLE_ABI) {
         answer("not started: another archive than the header's");
         return NOT_STARTED;
     }
+    if (commissioned)
+        return commission_played(&commission);
     return start(&box, words[1]) ? run(&box) : NOT_STARTED;
 }

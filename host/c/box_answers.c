@@ -1,4 +1,4 @@
-/* What a box says: box.c has the lines. */
+/* What a box says: box.c and box_commission.h have the lines. */
 #include "box_answers.h"
 
 #include "box_market.h"

@@ -1,4 +1,4 @@
-/* What a box says on standard output. */
+/* What a box says on standard output, as it reads lines and as it is commissioned. */
 #ifndef BOX_ANSWERS_H
 #define BOX_ANSWERS_H
 

@@ -55,7 +55,23 @@ static uint64_t digits(struct cursor *cursor, uint64_t most)
     return size;
 }
 
-/* The next number, between `least`, which is not above 0, and `most`. */
+/* The number that begins here, between `least`, which is not above 0, and `most`. */
+static int64_t number_here(struct cursor *cursor, int64_t least, int64_t most)
+{
+    if (*cursor->at != '-')
+        return (int64_t)digits(cursor, (uint64_t)most);
+    cursor->at++;
+    return (int64_t)(0 - digits(cursor, 0 - (uint64_t)least));
+}
+
+int number_parsed(const char *text, int64_t least, int64_t most, int64_t *number)
+{
+    struct cursor cursor = {text, NULL};
+    *number = number_here(&cursor, least, most);
+    return cursor.wrong == NULL && *cursor.at == 0;
+}
+
+/* The next number of a line. */
 static int64_t number(struct cursor *cursor, int64_t least, int64_t most)
 {
     if (cursor->wrong != NULL)
@@ -65,10 +81,7 @@ static int64_t number(struct cursor *cursor, int64_t least, int64_t most)
         cursor->wrong = "it has too few numbers";
         return 0;
     }
-    if (*cursor->at != '-')
-        return (int64_t)digits(cursor, (uint64_t)most);
-    cursor->at++;
-    return (int64_t)(0 - digits(cursor, 0 - (uint64_t)least));
+    return number_here(cursor, least, most);
 }
 
 static uint8_t small(struct cursor *cursor)

@@ -44,4 +44,7 @@ int line_read(FILE *input, char *text, const char **wrong);
 /* What the line says; answers why it is bad, or null. */
 const char *line_parsed(const char *text, struct line *line);
 
+/* Whether the text is one number as lines have them, and nothing else, between `least`, which is not above 0, and `most`. */
+int number_parsed(const char *text, int64_t least, int64_t most, int64_t *number);
+
 #endif
