@@ -10,6 +10,9 @@
 Intervals that a site's logger hands over as records (request 2026-01 of document 02) are entered by
 `for interval in book.intervals(records): book.enter(*interval, schedule)`.
 
+A test load that anyone can remake (request 2026-07 of document 02) is drawn from a 32-bit seed, each interval from the
+seed that came with the one before: `seed, interval = book.synthetic(seed, book.entries, 0)`.
+
 Money is in whole cents, the index in whole dollars. docs/REFUSALS.md has every refusal, host/c/guxhamole.h every
 function.
 
@@ -126,7 +129,8 @@ class Entered(NamedTuple):
 
 
 class Interval(NamedTuple):
-    """An entry but for its schedule, as records carry it: `book.enter(*interval, schedule)` enters it."""
+    """An entry but for its schedule, as records carry it and a seed draws it: `book.enter(*interval, schedule)` enters
+    it."""
 
     number: int
     day_kind: int
@@ -141,6 +145,13 @@ class Found(NamedTuple):
 
     interval: Interval
     next: int
+
+
+class Drawn(NamedTuple):
+    """The seed of the next interval of a test load, and this one's interval."""
+
+    seed: int
+    interval: Interval
 
 
 class Schedule(NamedTuple):
@@ -188,6 +199,10 @@ class _Found(ctypes.Structure):
     _fields_ = [("number", c_uint32), ("next", c_uint64), ("entry", c_uint32), ("day_kind", c_uint32)]
 
 
+class _Drawn(ctypes.Structure):
+    _fields_ = [("number", c_uint32), ("seed", c_uint32), ("entry", c_uint32), ("day_kind", c_uint32)]
+
+
 class _Left(ctypes.Structure):
     _fields_ = [("number", c_uint32), ("intervals", c_uint32)]
 
@@ -197,7 +212,8 @@ class _Rows(ctypes.Structure):
 
 
 _SIZES = {
-    _Settings: 32, _Book: 864, _Kept: 880, _Entered: 888, _Reading: 24, _Stored: 16, _Found: 24, _Left: 8, _Rows: 400,
+    _Settings: 32, _Book: 864, _Kept: 880, _Entered: 888, _Reading: 24, _Stored: 16, _Found: 24, _Drawn: 16, _Left: 8,
+    _Rows: 400,
 }
 for _layout, _size in _SIZES.items():
     if ctypes.sizeof(_layout) != _size:
@@ -224,6 +240,7 @@ _FUNCTIONS = {
     "load": (_Kept, [*_BYTES, *_SIGNED]),
     "interval_read": (_Found, [_Book, *_BYTES, c_size_t, *_CONTENTS]),
     "interval_write": (_Stored, [_Book, c_uint32, c_uint8, *_CONTENTS, *_BYTES]),
+    "synthetic": (_Drawn, [_Book, c_uint32, c_uint32, c_uint8, *_CONTENTS]),
     "schedule": (_Rows, [c_uint8, c_int32, c_int32, c_uint8, *_SIGNED, *_BYTES]),
     "amount_text": (c_size_t, [c_int64, *_BYTES]),
     "image_check": (c_uint32, _BYTES),
@@ -399,11 +416,24 @@ class Book:
         answer = _accepted(_face().guxhamole_interval_write(self._book, *head, *lent))
         return bytes(buffer)[:answer.length]
 
+    def synthetic(self, seed: int, number: int, day_kind: int) -> Drawn:
+        """An interval of a test load with this number and day kind, drawn from a seed of 32 bits, 0 too, and the seed
+        to draw the next one from. Whatever the seed, an entry takes its prices, marks and factors; number and day kind
+        are not looked at. The book and ring stay. It is never refused."""
+        head = (_fits(seed, c_uint32), _fits(number, c_uint32), _fits(day_kind, c_uint8))
+        lent = self._slices()
+        answer = _accepted(_face().guxhamole_synthetic(self._book, *head, *_lent(*lent)))
+        return Drawn(answer.seed, Interval(answer.entry, answer.day_kind, *map(list, lent)))
+
+    def _slices(self):
+        """Room for an interval of this book: its prices, marks, flows and factors."""
+        regions = self.regions
+        return [(c_int32 * (regions * (self.services + 1)))(), (c_uint8 * regions)(), (c_int32 * regions)(),
+                (c_uint32 * regions)()]
+
     def _read(self, records, at: int) -> Found:
         """The interval at a place of bytes that are the library's to look at."""
-        regions = self.regions
-        lent = [(c_int32 * (regions * (self.services + 1)))(), (c_uint8 * regions)(), (c_int32 * regions)(),
-                (c_uint32 * regions)()]
+        lent = self._slices()
         answer = _accepted(_face().guxhamole_interval_read(self._book, *_lent(records), at, *_lent(*lent)))
         return Found(Interval(answer.entry, answer.day_kind, *map(list, lent)), answer.next)
 
