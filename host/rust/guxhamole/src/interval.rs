@@ -19,7 +19,7 @@ pub struct Interval<'a> {
     pub factors: &'a [u32],
 }
 
-/// What a reading fills: the slices of an [`Interval`], of the same lengths.
+/// What a reading or a draw fills: the slices of an [`Interval`], of the same lengths.
 #[derive(Debug, PartialEq, Eq)]
 pub struct IntervalMut<'a> {
     /// R × M prices, region by region, cents.

@@ -3,8 +3,8 @@
 //!
 //! Proved of each function, for all arguments: it ends, reads and writes only what it is lent, keeps no pointer and no state of
 //! its own, and its whole outcome is that of the definitions of document 01, and of document 02 for interval records
-//! ([`Book::read_interval`], [`Book::write_interval`]) and for the intervals left ([`Book::intervals_left`]). A refused call
-//! changes nothing.
+//! ([`Book::read_interval`], [`Book::write_interval`]), for the intervals left ([`Book::intervals_left`]) and for the test load
+//! ([`Book::synthetic`]). A refused call changes nothing.
 //!
 //! # What the host must do
 //!
@@ -68,6 +68,7 @@ mod functions;
 mod interval;
 mod lengths;
 mod refusal;
+mod synthetic;
 
 #[allow(unsafe_code)] // The one place: the C functions are called there and nowhere else.
 pub mod raw;
@@ -77,3 +78,4 @@ pub use functions::{abi, amount_text, check, index, replay, schedule, Schedule, 
 pub use interval::{Found, Interval, IntervalMut};
 pub use lengths::*;
 pub use refusal::Refusal;
+pub use synthetic::Drawn;

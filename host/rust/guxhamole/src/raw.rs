@@ -95,6 +95,17 @@ pub struct Found {
     pub day_kind: u32,
 }
 
+/// The answer of a draw.
+#[repr(C)]
+#[derive(Clone, Copy, Debug, PartialEq, Eq)]
+#[allow(missing_docs)]
+pub struct Drawn {
+    pub number: u32,
+    pub seed: u32,
+    pub entry: u32,
+    pub day_kind: u32,
+}
+
 /// The answer of a question for the intervals left.
 #[repr(C)]
 #[derive(Clone, Copy, Debug, PartialEq, Eq)]
@@ -141,6 +152,9 @@ const _: () = {
     assert!(size_of::<Found>() == 24 && offset_of!(Found, number) == 0);
     assert!(offset_of!(Found, next) == 8 && offset_of!(Found, entry) == 16);
     assert!(offset_of!(Found, day_kind) == 20);
+    assert!(size_of::<Drawn>() == 16 && offset_of!(Drawn, number) == 0);
+    assert!(offset_of!(Drawn, seed) == 4 && offset_of!(Drawn, entry) == 8);
+    assert!(offset_of!(Drawn, day_kind) == 12);
     assert!(size_of::<Left>() == 8 && offset_of!(Left, intervals) == 4);
     assert!(size_of::<Rows>() == 400 && offset_of!(Rows, place) == 8);
     assert!(offset_of!(Rows, weekday) == 16 && offset_of!(Rows, weekend) == 208);
@@ -167,7 +181,7 @@ impl Book {
 }
 
 mod face {
-    use super::{Book, Entered, Found, Kept, Left, Reading, Rows, Settings, Stored};
+    use super::{Book, Drawn, Entered, Found, Kept, Left, Reading, Rows, Settings, Stored};
 
     extern "C" {
         pub fn guxhamole_open(settings: Settings, ring: *mut i32, ring_length: usize) -> Kept;
@@ -235,6 +249,20 @@ mod face {
             buffer: *mut u8,
             buffer_length: usize,
         ) -> Stored;
+        pub fn guxhamole_synthetic(
+            book: Book,
+            seed: u32,
+            entry: u32,
+            day_kind: u8,
+            prices: *mut i32,
+            prices_length: usize,
+            marks: *mut u8,
+            marks_length: usize,
+            flows: *mut i32,
+            flows_length: usize,
+            factors: *mut u32,
+            factors_length: usize,
+        ) -> Drawn;
         pub fn guxhamole_intervals_left(
             book: Book,
             ring: *const i32,
@@ -402,6 +430,33 @@ pub fn interval_write(book: Book, interval: crate::Interval<'_>, buffer: &mut [u
             interval.factors.len(),
             buffer.as_mut_ptr(),
             buffer.len(),
+        )
+    }
+}
+
+/// "10, then 11 over the filled slices". The answer's entry and day kind are those given, of any values.
+pub fn synthetic(
+    book: Book,
+    seed: u32,
+    entry: u32,
+    day_kind: u8,
+    interval: crate::IntervalMut<'_>,
+) -> Drawn {
+    // SAFETY: the slices are as said above.
+    unsafe {
+        face::guxhamole_synthetic(
+            book,
+            seed,
+            entry,
+            day_kind,
+            interval.prices.as_mut_ptr(),
+            interval.prices.len(),
+            interval.marks.as_mut_ptr(),
+            interval.marks.len(),
+            interval.flows.as_mut_ptr(),
+            interval.flows.len(),
+            interval.factors.as_mut_ptr(),
+            interval.factors.len(),
         )
     }
 }

@@ -24,7 +24,7 @@ pub struct Interval {
 
 impl Interval {
     /// The lengths that an entry's slices have; else 11.
-    fn fits(&self, shape: &Shape) -> bool {
+    pub(crate) fn fits(&self, shape: &Shape) -> bool {
         self.prices.len() == shape.prices()
             && self.marks.len() == shape.regions
             && self.flows.len() == shape.regions

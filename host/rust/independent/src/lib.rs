@@ -2,7 +2,7 @@
 //! definition and no code with the proved book: the ledger keeps the whole history and recomputes every sum, count,
 //! position and period from it, and limits go over every route one by one. Beside it stand a cache of what it recomputes,
 //! for windows of thousands of prices, and the book as a host keeps it, with its ring; and document 02's interval records,
-//! intervals left, and thresholds in whole hundreds.
+//! intervals left, thresholds in whole hundreds, and test load.
 //! Quotations are document 01's unless a file says otherwise.
 
 pub mod amount;
@@ -21,6 +21,7 @@ pub mod publishing;
 pub mod rings;
 pub mod rounding;
 pub mod rules;
+mod synthetic;
 
 pub use calls::{Answer, Call, Values};
 pub use ledger::{Ledger, Report};
