@@ -2,6 +2,7 @@
 
 use crate::playing::Playing;
 use generator::calls::ring_length;
+use independent::book::Book;
 use independent::image::Fields;
 use independent::ledger::Entry;
 use independent::rules::NO_PARENT;
@@ -35,6 +36,16 @@ pub fn parents(first: &[u8]) -> [u8; 8] {
     let mut parents = [NO_PARENT; 8];
     parents[..first.len()].copy_from_slice(first);
     parents
+}
+
+/// A book of a size as it is opened, W 1 and H 1, its regions in a chain.
+pub fn chained(regions: u32, services: u32) -> Book {
+    let mut opening = opening(regions, services, 1, 1);
+    for region in 1..regions as usize {
+        opening.parents[region] = region as u8 - 1;
+    }
+    let mut ring = vec![0; ring_length(&opening)];
+    Book::open(&opening, &mut ring).expect("a valid opening")
 }
 
 /// "R 3, parents 255, 0, 1, S 0, W 1, H 1, first position 0, threshold 95,000, limits ±60,000."

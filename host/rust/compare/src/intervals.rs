@@ -38,7 +38,7 @@ pub fn compiled(book: &Paper) -> raw::Book {
 }
 
 /// Copies of an interval's slices, each guarded.
-struct Lending {
+pub(crate) struct Lending {
     prices: Lent<i32>,
     marks: Lent<u8>,
     flows: Lent<i32>,
@@ -46,7 +46,7 @@ struct Lending {
 }
 
 impl Lending {
-    fn of(interval: &Interval) -> Lending {
+    pub(crate) fn of(interval: &Interval) -> Lending {
         Lending {
             prices: Lent::of(&interval.prices),
             marks: Lent::of(&interval.marks),
@@ -55,7 +55,7 @@ impl Lending {
         }
     }
 
-    fn slices_mut(&mut self) -> IntervalMut<'_> {
+    pub(crate) fn slices_mut(&mut self) -> IntervalMut<'_> {
         IntervalMut {
             prices: self.prices.slice_mut(),
             marks: self.marks.slice_mut(),
@@ -75,7 +75,7 @@ impl Lending {
         }
     }
 
-    fn holds(&self, interval: &Interval) -> bool {
+    pub(crate) fn holds(&self, interval: &Interval) -> bool {
         self.prices.holds(&interval.prices)
             && self.marks.holds(&interval.marks)
             && self.flows.holds(&interval.flows)

@@ -11,6 +11,7 @@ pub mod limits;
 pub mod machines;
 pub mod playing;
 pub mod replay;
+pub mod synthetic;
 pub mod twins;
 pub mod typed;
 

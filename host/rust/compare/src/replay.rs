@@ -87,6 +87,21 @@ impl Compiled {
     }
 }
 
+/// What the compiled function answers and the image that it leaves, for lists that take the player too long; nothing is written
+/// behind the answers, nor behind what is lent.
+pub fn answered(calls: &[u8], lent: &Lent) -> (Vec<u8>, Vec<u8>) {
+    let mut played = compiled(calls, lent);
+    let kept = played.scratch_kept
+        && stays(&played.answers, played.written, FILL)
+        && stays(&played.image, lent.image, FILL)
+        && stays(&played.ring, lent.ring, FILL_NUMBER)
+        && stays(&played.other, lent.other, FILL_NUMBER);
+    assert!(kept, "memory behind the answers or behind what is lent");
+    played.answers.truncate(played.written);
+    played.image.truncate(lent.image);
+    (played.answers, played.image)
+}
+
 /// Both ways of playing a list.
 fn both(list: &List) -> (Compiled, Played) {
     let calls = records::bytes(&list.records);

@@ -3,7 +3,8 @@
 
 use compare::playing::{Playing, Start};
 use compare::typed::{paper, Pair};
-use compare::{books, intervals, left, rounds, say};
+use compare::{books, intervals, left, rounds, say, synthetic};
+use generator::draws::Drawing;
 use generator::intervals::{Reading, Writing};
 use generator::questions::Question;
 use generator::{calls, images, Random};
@@ -67,6 +68,7 @@ impl Met {
             self.call(&mut pair, &call);
         }
         self.interval(book);
+        self.draw(book);
         let number = self.question(book, ring);
         let fault = paper(book).fault();
         assert_eq!(number == 10, fault.is_some(), "{book:?}: {fault:?}");
@@ -110,6 +112,22 @@ impl Met {
             self.calls += 1;
             *self.answers.entry(number).or_default() += 1;
         }
+    }
+
+    /// A draw by a book of any fields, which says 10 exactly where rule 10 does.
+    fn draw(&mut self, book: &raw::Book) {
+        let book = paper(book);
+        let drawing = Drawing {
+            lent: interval(&book),
+            seed: book.entries,
+            book,
+        };
+        let answer = synthetic::draw(&drawing);
+        let number = answer.map_or_else(|refusal| refusal.number, |_| 0);
+        let fault = drawing.book.fault();
+        assert_eq!(number, if fault.is_some() { 10 } else { 0 }, "{fault:?}");
+        self.calls += 1;
+        *self.answers.entry(number).or_default() += 1;
     }
 
     fn say(&self, name: &str) {

@@ -8,7 +8,7 @@ use generator::Random;
 use guxhamole::IntervalMut;
 use independent::book::Book;
 use independent::interval::Interval;
-use independent::{Opening, Refusal};
+use independent::Refusal;
 use std::collections::BTreeMap;
 
 /// What was met: each answer of the reader and of the writer, and the round trips.
@@ -135,21 +135,6 @@ fn generated() {
     assert!(met.upward >= 5_000 && met.shuffled >= 5_000);
 }
 
-/// An opened book of a size, its regions in a chain.
-fn sized(regions: u32, services: u32) -> Book {
-    let mut opening = books::opening(regions, services, 1, 1);
-    opening.threshold = 90_000;
-    for region in 1..regions as usize {
-        opening.parents[region] = region as u8 - 1;
-    }
-    opened(&opening)
-}
-
-fn opened(opening: &Opening) -> Book {
-    let mut ring = vec![0; (opening.regions * (opening.services + 1) * opening.window) as usize];
-    Book::open(opening, &mut ring).expect("a valid opening")
-}
-
 /// A reading of two intervals end to end, from the first: regions upward, or downward.
 fn two(random: &mut Random, book: &Book, upward: bool) -> Reading {
     let mut order: Vec<usize> = (0..book.regions.into()).collect();
@@ -179,7 +164,7 @@ fn every_cut_and_place() {
     let mut met = Met::default();
     let mut random = Random::new(0x41_0000);
     for (regions, services) in SIZES {
-        let book = sized(regions, services);
+        let book = books::chained(regions, services);
         let whole = two(&mut random, &book, regions % 2 == 0);
         let length = intervals::length(&book);
         for cut in 0..whole.records.len() {
@@ -225,7 +210,7 @@ fn read_within(book: &Book, records: &[u8], at: usize) -> u32 {
 fn nothing_beside_is_read() {
     let mut random = Random::new(0x44_0000);
     for (regions, services) in SIZES {
-        let book = sized(regions, services);
+        let book = books::chained(regions, services);
         let length = intervals::length(&book);
         let memory = two(&mut random, &book, true).records.repeat(2);
         let lent = &memory[length..3 * length];
@@ -250,7 +235,7 @@ fn every_byte() {
     let mut met = Met::default();
     let mut random = Random::new(0x42_0000);
     for (regions, services, upward) in [(2, 0, true), (2, 0, false), (3, 1, false)] {
-        let whole = two(&mut random, &sized(regions, services), upward);
+        let whole = two(&mut random, &books::chained(regions, services), upward);
         for place in 0..intervals::length(&whole.book) {
             for value in 0..=255 {
                 let mut reading = whole.clone();
@@ -268,12 +253,7 @@ fn every_byte() {
 /// An interval with one of its slices, by number, of another length.
 fn resized(interval: &Interval, slice: usize, length: usize) -> Interval {
     let mut interval = interval.clone();
-    match slice {
-        0 => interval.prices.resize(length, 7),
-        1 => interval.marks.resize(length, 7),
-        2 => interval.flows.resize(length, 7),
-        _ => interval.factors.resize(length, 7),
-    }
+    intervals::resize(&mut interval, slice, length);
     interval
 }
 
@@ -283,7 +263,7 @@ fn every_room_and_length() {
     let mut met = Met::default();
     let mut random = Random::new(0x43_0000);
     for (regions, services) in SIZES {
-        let book = sized(regions, services);
+        let book = books::chained(regions, services);
         let (reading, length) = (two(&mut random, &book, true), intervals::length(&book));
         let interval = intervals::interval(&mut random, &book);
         let write = |interval: &Interval, buffer: usize| Writing {

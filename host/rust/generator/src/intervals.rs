@@ -186,20 +186,25 @@ fn place(random: &mut Random, at: usize, length: usize) -> usize {
     }
 }
 
-/// One of the four slices longer or shorter than it must be.
-fn misfit(random: &mut Random, interval: &mut Interval) {
-    let slice = random.below(4);
-    let right = match slice {
-        0 => interval.prices.len(),
-        _ => interval.marks.len(),
-    };
-    let length = random.pick(&[0, right - 1, right + 1, 2 * right, 9, 88]);
+/// One of the four slices, by number, of another length.
+pub fn resize(interval: &mut Interval, slice: usize, length: usize) {
     match slice {
         0 => interval.prices.resize(length, 7),
         1 => interval.marks.resize(length, 7),
         2 => interval.flows.resize(length, 7),
         _ => interval.factors.resize(length, 7),
     }
+}
+
+/// One of the four slices longer or shorter than it must be.
+pub(crate) fn misfit(random: &mut Random, interval: &mut Interval) {
+    let slice = random.below(4);
+    let right = match slice {
+        0 => interval.prices.len(),
+        _ => interval.marks.len(),
+    };
+    let length = random.pick(&[0, right - 1, right + 1, 2 * right, 9, 88]);
+    resize(interval, slice, length);
 }
 
 /// A reading from one to three intervals, end to end, with none, one or two damages; seldom those of another book.

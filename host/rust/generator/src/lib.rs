@@ -1,7 +1,8 @@
-//! Seeded, bounded lists of calls, their records, images, interval records, questions for the intervals left, calls of the schedule
-//! maker and index arguments for the differential test.
+//! Seeded, bounded lists of calls, their records, images, interval records, draws of a test load, questions for the intervals left,
+//! calls of the schedule maker and index arguments for the differential test.
 
 pub mod calls;
+pub mod draws;
 pub mod images;
 pub mod indexes;
 pub mod intervals;
