@@ -5,10 +5,11 @@ use crate::bytes::Bytes;
 use crate::pages::Pages;
 use crate::Met;
 use compare::typed::{paper, told};
-use guxhamole::{raw, Book, Settings, BOOK_LENGTH};
+use guxhamole::{raw, Book, IntervalMut, Settings, BOOK_LENGTH};
 use independent::amount::amount_text;
 use independent::book::Book as Paper;
 use independent::index::index;
+use independent::interval::Interval;
 use independent::ledger::Entry;
 use independent::maker::{make, Making};
 use independent::{Opening, Refusal, Report};
@@ -34,7 +35,7 @@ pub fn run(room: &mut [Pages], data: &[u8]) -> Met {
         if bytes.is_empty() {
             break;
         }
-        let (name, number) = match bytes.byte() % 14 {
+        let (name, number) = match bytes.byte() % 15 {
             0..=4 => ("entry", kept.enter(room, &mut bytes, at_end)),
             5 => ("threshold", kept.set_threshold(&mut bytes)),
             6 => ("limits", kept.set_limits(&mut bytes)),
@@ -42,6 +43,7 @@ pub fn run(room: &mut [Pages], data: &[u8]) -> Met {
             8 | 9 => ("restart", kept.restart(room, &mut bytes, at_end)),
             10 => ("schedule", schedule(room, &mut bytes, at_end)),
             11 => ("text and index", text_and_index(room, &mut bytes, at_end)),
+            12 => ("draw", kept.draw(room, &mut bytes, at_end)),
             _ => ("intervals left", kept.ask(room, &mut bytes, at_end)),
         };
         assert_eq!(paper(kept.book.raw()), kept.paper, "book after {name}");
@@ -296,6 +298,47 @@ impl Kept {
         assert_eq!(left, expected, "intervals left");
         assert!(ring.holds(&contents), "ring after a question");
         number(&left)
+    }
+
+    /// A draw of a test load into slices of about the book's lengths.
+    fn draw(&self, room: &mut [Pages], bytes: &mut Bytes, at_end: bool) -> u32 {
+        let (regions, asked, _, _) = lengths(self.book.raw());
+        let seed = bytes.u32();
+        let mut interval = Interval {
+            number: bytes.u32(),
+            kind: bytes.byte(),
+            prices: vec![-1; bytes.length(asked)],
+            marks: vec![2; bytes.length(regions)],
+            flows: vec![-3; bytes.length(regions)],
+            factors: vec![4; bytes.length(regions)],
+        };
+        let [one, two, three, four, ..] = room else {
+            unreachable!("four slices at least")
+        };
+        let prices = one.hold(&interval.prices, at_end);
+        let marks = two.hold(&interval.marks, at_end);
+        let flows = three.hold(&interval.flows, at_end);
+        let factors = four.hold(&interval.factors, at_end);
+        let slices = IntervalMut {
+            prices: &mut *prices.lent,
+            marks: &mut *marks.lent,
+            flows: &mut *flows.lent,
+            factors: &mut *factors.lent,
+        };
+        let drawn = told(
+            self.book
+                .synthetic(seed, interval.number, interval.kind, slices),
+        );
+        let drawn = drawn.map(|drawn| (drawn.seed, drawn.number, drawn.day_kind));
+        let expected = self.paper.synthetic(seed, &mut interval);
+        let expected = expected.map(|last| (last, interval.number, interval.kind));
+        assert_eq!(drawn, expected, "draw");
+        let filled = prices.holds(&interval.prices)
+            && marks.holds(&interval.marks)
+            && flows.holds(&interval.flows)
+            && factors.holds(&interval.factors);
+        assert!(filled, "slices after the draw");
+        number(&expected)
     }
 
     /// A store into a buffer that is about long enough, and a load of exactly the image.

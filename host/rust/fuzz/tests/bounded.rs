@@ -94,7 +94,7 @@ fn typed(random: &mut Random) -> Vec<u8> {
 
 /// One call's bytes: its kind, then numbers that are small, wild or none.
 fn any_call(random: &mut Random, input: &mut Vec<u8>) {
-    input.push(random.below(14) as u8);
+    input.push(random.below(15) as u8);
     for _ in 0..random.below(60) {
         input.push(match random.below(8) {
             0 => random.word() as u8,
@@ -184,7 +184,7 @@ fn bounded() {
 
 /// The answers that a run over all inputs must have met.
 fn all_met(met: &BTreeMap<(&'static str, u32), u64>) {
-    let expected: [(&str, &[u32]); 14] = [
+    let expected: [(&str, &[u32]); 15] = [
         ("check", &[0]),
         ("load", &[0]),
         ("opening", &[0, 18, 44]),
@@ -197,6 +197,7 @@ fn all_met(met: &BTreeMap<(&'static str, u32), u64>) {
         ("schedule", &[0]),
         ("text and index", &[0]),
         ("intervals left", &[0, 10, 11, 21, 22, 43]),
+        ("draw", &[0, 10, 11]),
         ("read", &[0, 10, 11, 40, 41, 42]),
         ("write", &[0, 10, 11, 23]),
     ];
