@@ -1,10 +1,11 @@
 //! Calls to be counted by instructions rather than timed: `bench count proved|fast` and, where it is not the real market's free
-//! entry, the words `small`, `administered`, `report`, `store`, `load`, `question`, `schedule`, or `read`, `shuffled` and `write` of
-//! interval records. Under callgrind's `--toggle-collect='*count::counted*'` the calls themselves are counted, on a book whose window
-//! is full.
+//! entry, the words `small`, `administered`, `report`, `store`, `load`, `question`, `schedule`, `draw` of the test load, or `read`,
+//! `shuffled` and `write` of interval records. Under callgrind's `--toggle-collect='*count::counted*'` the calls themselves are
+//! counted, on a book whose window is full.
 
 use crate::intervals::{self, Day, Recorded, Room};
 use crate::lists::{Market, Trade, Trading};
+use crate::loads::{self, Drawing, Load};
 use crate::schedules::{Maker, Weeks};
 use crate::typed::{Host, Typed, CALLS};
 
@@ -15,6 +16,9 @@ const QUESTION: &str = "question";
 
 /// A making of a schedule, of the market's half-hours; no book is asked.
 const SCHEDULE: &str = "schedule";
+
+/// An interval of the test load drawn.
+const DRAW: &str = "draw";
 
 /// How many calls are counted.
 const TIMES: usize = 1_000;
@@ -36,7 +40,8 @@ pub fn run(real: &Market, small: &Market, words: &[&str]) -> Option<()> {
     };
     for &word in words {
         let records = intervals::CALLS.map(|(name, _)| name);
-        let mut known = CALLS.into_iter().chain([QUESTION, SCHEDULE]).chain(records);
+        let others = [QUESTION, SCHEDULE, DRAW];
+        let mut known = CALLS.into_iter().chain(others).chain(records);
         match word {
             "small" => counting.market = *small,
             "administered" => counting.trade = Trade::Administered,
@@ -58,9 +63,14 @@ pub fn run(real: &Market, small: &Market, words: &[&str]) -> Option<()> {
 }
 
 impl Counting {
-    fn play<B: Typed + Recorded + Maker>(&self) {
-        if self.call == SCHEDULE {
-            return counted_schedules::<B>(&Weeks::new(self.market.halves));
+    fn play<B: Typed + Recorded + Maker + Drawing>(&self) {
+        match self.call {
+            SCHEDULE => return counted_schedules::<B>(&Weeks::new(self.market.halves)),
+            DRAW => {
+                let load = Load::new(self.market.regions, self.market.services);
+                return counted_draws::<B>(&mut load.host());
+            }
+            _ => {}
         }
         let mut records = intervals::CALLS.into_iter();
         if let Some((_, call)) = records.find(|(name, _)| *name == self.call) {
@@ -100,6 +110,11 @@ fn counted_records<B: Recorded>(book: &B, day: &Day, room: &mut Room, call: inte
 #[inline(never)]
 fn counted_schedules<M: Maker>(weeks: &Weeks) {
     repeated(|| M::schedule(black_box(weeks)));
+}
+
+#[inline(never)]
+fn counted_draws<B: Drawing>(host: &mut loads::Host<B>) {
+    repeated(|| host.draw());
 }
 
 fn repeated<A>(mut call: impl FnMut() -> A) {

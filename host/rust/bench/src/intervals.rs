@@ -223,7 +223,7 @@ impl Day {
 
 impl Interval {
     /// Whether the slices are another's.
-    fn holds(&self, other: &Interval) -> bool {
+    pub fn holds(&self, other: &Interval) -> bool {
         self.prices == other.prices
             && self.marks == other.marks
             && self.flows == other.flows

@@ -1,13 +1,14 @@
-//! Measures the proved functions beside the hand-written ones: the typed calls over the same slices, interval records, questions
-//! for the intervals left, the schedule maker, then the replay on the same bytes, entries, restarts, and whether an entry's cost
-//! grows with the window or with the history. The one argument is the number of rounds; `intervals` leaves all but the interval
-//! records out, `questions` all but the questions, `schedules` all but the schedule maker, and `count ..` makes calls to be counted
-//! by instructions. docs/PERFORMANCE.md says how to read the tables.
+//! Measures the proved functions beside the hand-written ones: the typed calls over the same slices, interval records, the test load,
+//! questions for the intervals left, the schedule maker, then the replay on the same bytes, entries, restarts, and whether an entry's
+//! cost grows with the window or with the history. The one argument is the number of rounds; `intervals` leaves all but the interval
+//! records out, `loads` all but the test load, `questions` all but the questions, `schedules` all but the schedule maker, and
+//! `count ..` makes calls to be counted by instructions. docs/PERFORMANCE.md says how to read the tables.
 
 mod clock;
 mod count;
 mod intervals;
 mod lists;
+mod loads;
 mod questions;
 mod schedules;
 mod tables;
@@ -38,7 +39,7 @@ const REAL_ENTRIES: usize = 1_000;
 const SMALL_ENTRIES: usize = 40_000;
 const RESTARTS: usize = 40;
 
-/// The books whose interval records are read and written: the real one, the smallest and the largest.
+/// The books whose interval records are read and written, and whose test load is drawn: the real one, the smallest and the largest.
 const RECORDED: [(u8, u8); 3] = [(5, 10), (1, 0), (8, 10)];
 
 /// Rounds, where none are said.
@@ -51,6 +52,8 @@ fn main() {
         ["count", ref rest @ ..] => count::run(&REAL, &SMALL, rest),
         ["intervals"] => some_rounds("", interval_records),
         ["intervals", rounds] => some_rounds(rounds, interval_records),
+        ["loads"] => some_rounds("", test_load),
+        ["loads", rounds] => some_rounds(rounds, test_load),
         ["questions"] => some_rounds("", intervals_left),
         ["questions", rounds] => some_rounds(rounds, intervals_left),
         ["schedules"] => some_rounds("", schedule_maker),
@@ -60,8 +63,8 @@ fn main() {
         _ => None,
     };
     if done.is_none() {
-        eprintln!("bench [intervals|questions|schedules] [ROUNDS]");
-        eprintln!("bench count proved|fast [small] [administered] [report|store|load|question|schedule|read|shuffled|write]");
+        eprintln!("bench [intervals|loads|questions|schedules] [ROUNDS]");
+        eprintln!("bench count proved|fast [small] [administered] [report|store|load|question|schedule|draw|read|shuffled|write]");
         std::process::exit(2);
     }
 }
@@ -80,6 +83,7 @@ fn some_rounds(rounds: &str, tables: fn(usize)) -> Option<()> {
 fn all_tables(rounds: usize) {
     typed_calls(rounds);
     interval_records(rounds);
+    test_load(rounds);
     intervals_left(rounds);
     schedule_maker(rounds);
     steady(rounds);
@@ -129,6 +133,15 @@ fn interval_records(rounds: usize) {
     tables::two_head("interval records, millions of bytes a second");
     for (name, bytes, costs) in &rows {
         tables::rate_row(name, *bytes, costs);
+    }
+}
+
+/// An interval of the test load drawn.
+fn test_load(rounds: usize) {
+    tables::head("test load, an interval drawn");
+    for (regions, services) in RECORDED {
+        let costs = loads::Load::new(regions, services).measure(rounds);
+        tables::row(&format!("R {regions}, S {services}"), &costs);
     }
 }
 

@@ -20,7 +20,7 @@ pub struct Interval<'a> {
     pub factors: &'a [u32],
 }
 
-/// What a reader fills.
+/// What a reader or a draw fills.
 #[derive(Debug)]
 pub struct IntervalMut<'a> {
     pub prices: &'a mut [i32],
@@ -181,7 +181,7 @@ impl Book {
 
     /// 11: the prices' length, and those of marks, flows and factors.
     #[inline]
-    fn slices_right(&self, prices: usize, others: [usize; 3]) -> bool {
+    pub(crate) fn slices_right(&self, prices: usize, others: [usize; 3]) -> bool {
         prices == self.prices() && others == [usize::from(self.regions); 3]
     }
 }

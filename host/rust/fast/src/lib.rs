@@ -1,6 +1,6 @@
 //! Document 01's book by hand, for speed: the baseline that the proved functions are measured against. Running sums,
-//! lent slices, no allocation; rule 10 and every other refusal at every call, as there. Document 02's interval records and
-//! intervals left beside it, and the schedule maker. Quotations are document 01's unless a file says otherwise.
+//! lent slices, no allocation; rule 10 and every other refusal at every call, as there. Document 02's interval records,
+//! intervals left and test load beside it, and the schedule maker. Quotations are document 01's unless a file says otherwise.
 
 #![no_std]
 #![forbid(unsafe_code)]
@@ -14,6 +14,7 @@ mod left;
 pub mod maker;
 mod publishing;
 mod replay;
+mod synthetic;
 
 pub use book::{Book, Opening, Refusal, Report};
 pub use entry::Entry;
