@@ -1,4 +1,4 @@
--- The draws of a test load: seeds one after the other, and the numbers that are made of them. Assumes nothing.
+-- The draws of a test load (request 2026-07): seeds one after the other, and the numbers that are made of them. Assumes nothing.
 use Prim.Native.Nat.{ℕ, zero, suc, _+_, _*_, _/_, _%_}
 use lib.Dec.{ltb}
 use lib.IntN.{ℤ, pos, _-ℤ_}

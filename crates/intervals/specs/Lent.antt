@@ -1,4 +1,4 @@
--- The lengths of the four slices that a call on interval records is lent. Assumes nothing.
+-- The lengths of the four slices that a call on interval records is lent, and a test load. Assumes nothing.
 use mathlib.Core.Bool.{Bool, _&&_}
 use Prim.Native.Nat.{ℕ}
 use lib.Dec.{eqb}

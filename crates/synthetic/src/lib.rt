@@ -1,5 +1,4 @@
 // A test load that anyone can remake: an interval's prices, marks, flows and factors, drawn from a seed.
-
 use book::record::Answer;
 use book::record::Book;
 use book::record::Refusal;
