@@ -1,5 +1,6 @@
-// What a C host calls: the book that it keeps between calls, interval records, the schedule maker, the amount text, the index, the image
-// check and the replay, over plain numbers and the host's own memory. Each function is one call of the proved operation.
+// What a C host calls: the book that it keeps between calls, interval records, test loads, intervals left, the schedule maker, the amount
+// text, the index, the image check and the replay, over plain numbers and the host's own memory. Each function is one call of the proved
+// operation.
 use amount::write_amount;
 use book::record::Book;
 use book::record::Settings;

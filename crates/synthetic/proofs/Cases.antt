@@ -1,14 +1,20 @@
--- Worked cases of a test load, computed: the seeds, and the intervals that are made of them. Assumes nothing.
+-- Worked cases of a test load, computed: the seeds, the intervals that are made of them, and an entry of one. Assumes nothing.
 use mathlib.Core.Path.{_≡_, refl}
 use mathlib.Core.List.{[], _∷_}
 use Prim.Native.Nat.{ℕ}
 use lib.IntN.{pos, negsuc}
 use lib.ListN.{replicate}
-use Rattle.laws.specs.Lists.{run}
+use native.Mathlib.Omega.{arith}
+use Rattle.laws.specs.Lists.{run, allBelow}
+use Rattle.pricing.specs.Verdict.{accepted}
 use Rattle.book.specs.declared.record.Book.{Book}
+use Rattle.book.specs.Validity.{valid}
+use Rattle.publishing.specs.Entry.{entryOf}
+use Rattle.entries.specs.Entering.{enterVerdict}
 use Rattle.interval_records.specs.Layout.{intervalOf}
 use Rattle.drawing.specs.Drawing.{seedAfter, drawn, energyOf}
 use Rattle.synthetic.specs.Synthetic.{made, draws}
+use Rattle.synthetic.proofs.Passes.{made-enters}
 
 -- a book of R regions with S services each
 abbrev sized : ℕ → ℕ → Book
@@ -57,3 +63,9 @@ zero-next = refl
 edge : (energyOf (drawn 1479915296 0) ∷ energyOf (drawn 1461063653 0) ∷ []) ≡ (pos 1500000 ∷ negsuc 1935 ∷ [])
 unfolding seedAfter
 edge = refl
+
+-- an entry of it is accepted: a book, a ring, a schedule and a table of which `made-enters` speaks
+taken : let v = made (sized 2 1) 0 0 1 in
+    enterVerdict (sized 2 1) 4 0 (entryOf 1 (v .prices) (v .marked) (v .flows) (v .factors) (replicate 8 (pos 0))) 4 ≡ accepted
+unfolding valid allBelow
+taken = made-enters (sized 2 1) 0 0 1 4 4 (replicate 8 (pos 0)) refl refl refl refl (omega arith) refl (omega arith)
