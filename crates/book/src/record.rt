@@ -61,6 +61,7 @@ pub enum Refusal {
     RecordRegion,
     PlannedPrice,
     Hundreds,
+    RecordOrder,
 }
 
 // What a call that answers nothing else says.
@@ -119,6 +120,7 @@ pub fn number(refusal: Refusal) -> u32
         Refusal::RecordRegion => 42,
         Refusal::PlannedPrice => 43,
         Refusal::Hundreds => 44,
+        Refusal::RecordOrder => 45,
     }
 }
 

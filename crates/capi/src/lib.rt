@@ -13,6 +13,7 @@ use face::Drawn;
 use face::Found;
 use face::Kept;
 use face::Left;
+use face::Rewritten;
 use face::Rows;
 use face::Seen;
 use face::Taken;
@@ -22,6 +23,7 @@ use face::found_of;
 use face::interval_of;
 use face::kept_of;
 use face::left_of;
+use face::rewritten_of;
 use face::rows_of;
 use face::seen_of;
 use face::taken_of;
@@ -29,6 +31,7 @@ use face::written_of;
 use image::loading::check;
 use image::loading::load;
 use image::storing::store;
+use interval_rewriter::rewriting::rewrite_interval;
 use interval_writer::writing::write_interval;
 use intervals::reading::read_interval;
 use planning::intervals_left;
@@ -54,9 +57,11 @@ ghost use Rattle.image.specs.Loading.{checked, loaded};
 ghost use Rattle.interval_records.specs.Layout.{intervalOf};
 ghost use Rattle.intervals.specs.Reading.{readInterval};
 ghost use Rattle.interval_writer.specs.Writing.{writeInterval};
+ghost use Rattle.interval_rewriter.specs.Rewriting.{rewriteInterval};
 ghost use Rattle.synthetic.specs.Synthetic.{synthesized};
 ghost use Rattle.planning.specs.Left.{intervalsLeft};
-ghost use Rattle.face.specs.Face.{openedOf, changedOf, takenOf, numbersOf, storedOf, loadedOf, readOf, writeOf, synthesizedOf, plannedOf, rowsOf, energyOf};
+ghost use Rattle.face.specs.Face.{openedOf, changedOf, takenOf, numbersOf, storedOf, loadedOf};
+ghost use Rattle.face.specs.Face.{readOf, writeOf, rewriteOf, synthesizedOf, plannedOf, rowsOf, energyOf};
 ghost use Rattle.replay.specs.Replay.{lentOf, outcome, replayed};
 ghost use Rattle.replay.specs.Promise.{promised};
 ghost use Rattle.capi.specs.Host.{year, indexAnswer};
@@ -205,6 +210,22 @@ pub extern "C" fn guxhamole_interval_write(
     let written = write_interval(book, entry, kind, prices, marks, flows, factors, buffer);
     let size = written.size;
     interval_of(size)
+}
+
+// Writes the interval of the earlier form at a place of `records` as the first bytes of `buffer`, its regions in number order; the bytes
+// after it stay.
+#[no_mangle]
+pub extern "C" fn guxhamole_interval_rewrite(
+    book: Book,
+    records: &[u8],
+    at: usize,
+    buffer: &mut [u8],
+) -> Rewritten
+    ensures { λ r. ⌜ rewriteOf r book (now (buffer .exit)) ≡ rewriteInterval book (now (records .entry)) at (now (buffer .entry)) ⌝ }
+{
+    let rewritten = rewrite_interval(book, records, at, buffer);
+    let place = rewritten.place;
+    rewritten_of(place)
 }
 
 // Fills the four slices with a test load that is drawn from a seed.

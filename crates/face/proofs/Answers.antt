@@ -27,6 +27,9 @@ use Rattle.intervals.proofs.Places.{read-place, read-book}
 use Rattle.interval_writer.specs.Writing as Writing
 use Rattle.interval_writer.specs.Writing.{writeInterval}
 use Rattle.interval_writer.proofs.Places.{write-place, write-book}
+use Rattle.interval_rewriter.specs.Rewriting as Rewriting
+use Rattle.interval_rewriter.specs.Rewriting.{rewriteInterval}
+use Rattle.interval_rewriter.proofs.Places.{rewrite-place, rewrite-book}
 use Rattle.planning.specs.Left as Planning
 use Rattle.planning.specs.Left.{intervalsLeft}
 use Rattle.planning.proofs.Places.{left-place, left-book}
@@ -38,10 +41,12 @@ use Rattle.face.specs.declared.Taken.{Taken}
 use Rattle.face.specs.declared.Seen.{Seen}
 use Rattle.face.specs.declared.Written.{Written}
 use Rattle.face.specs.declared.Found.{Found}
+use Rattle.face.specs.declared.Rewritten.{Rewritten}
 use Rattle.face.specs.declared.Drawn.{Drawn}
 use Rattle.face.specs.declared.Left.{Left}
-use Rattle.face.specs.Face.{verdictBy, keptBy, takenBy, seenBy, writtenBy, foundBy, drawnBy, leftBy}
-use Rattle.face.specs.Face.{openedOf, changedOf, loadedOf, takenOf, numbersOf, storedOf, readOf, writeOf, synthesizedOf, plannedOf}
+use Rattle.face.specs.Face.{verdictBy, keptBy, takenBy, seenBy, writtenBy, foundBy, rewrittenBy, drawnBy, leftBy}
+use Rattle.face.specs.Face.{openedOf, changedOf, loadedOf, takenOf, numbersOf, storedOf}
+use Rattle.face.specs.Face.{readOf, writeOf, rewriteOf, synthesizedOf, plannedOf}
 
 -- ---- calls that hand back a book
 module _ (k : Kept) {v : Verdict} {b : Book} (e : k ≡ keptBy v b) where
@@ -125,6 +130,14 @@ write-by r {v} {n} {c} {after} b i buffer e h =
     let p : v .place ≡ 0 = ap (λ (x : Writing.Outcome). x .verdict .place) h ∙ write-place b i buffer in
     let q : c ≡ b = ap (λ (x : Writing.Outcome). x .book) h ∙ write-book b i buffer in
     ap (λ (x : Written). writeOf x b after) e ∙ (rw (p, q) at h)
+
+pub rewrite-by : (r : Rewritten) {v : Verdict} {next : ℕ} {c : Book} {after : List ℕ} (b : Book) (bytes : List ℕ) (at : ℕ) (buffer : List ℕ)
+    → r ≡ rewrittenBy v next → record { verdict = v; next = next; book = c; buffer = after } ≡ rewriteInterval b bytes at buffer
+    → rewriteOf r b after ≡ rewriteInterval b bytes at buffer
+rewrite-by r {v} {next} {c} {after} b bytes at buffer e h =
+    let p : v .place ≡ 0 = ap (λ (x : Rewriting.Outcome). x .verdict .place) h ∙ rewrite-place b bytes at buffer in
+    let q : c ≡ b = ap (λ (x : Rewriting.Outcome). x .book) h ∙ rewrite-book b bytes at buffer in
+    ap (λ (x : Rewritten). rewriteOf x b after) e ∙ (rw (p, q) at h)
 
 -- ---- a test load: none of its refusals has a place
 pub synthesized-by : (r : Drawn) {v : Verdict} {seed entry day : ℕ} {c : Book} {prices flows : List ℤ} {marked factors : List ℕ}

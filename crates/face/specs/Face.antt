@@ -15,6 +15,7 @@ use Rattle.entries.specs.Entering as Entering
 use Rattle.interval_records.specs.Layout.{intervalOf}
 use Rattle.intervals.specs.Reading as Reading
 use Rattle.interval_writer.specs.Writing as Writing
+use Rattle.interval_rewriter.specs.Rewriting as Rewriting
 use Rattle.planning.specs.Left as Planning
 use Rattle.schedule.specs.Schedule as Schedule
 use Rattle.synthetic.specs.Synthetic as Synthetic
@@ -23,6 +24,7 @@ use Rattle.face.specs.declared.Taken.{Taken}
 use Rattle.face.specs.declared.Seen.{Seen}
 use Rattle.face.specs.declared.Written.{Written}
 use Rattle.face.specs.declared.Found.{Found}
+use Rattle.face.specs.declared.Rewritten.{Rewritten}
 use Rattle.face.specs.declared.Drawn.{Drawn}
 use Rattle.face.specs.declared.Left.{Left}
 use Rattle.face.specs.declared.Rows.{Rows}
@@ -54,7 +56,7 @@ numbersOf r =
 abbrev pub storedOf : Written → Book → List ℕ → Storing.Outcome
 storedOf r book buffer = record { verdict = verdictBy (r .number) 0; length = r .length; book = book; buffer = buffer }
 
--- 2026-01: "10, 11", 40 to 42, which have no place; the book is the caller's
+-- 2026-01: "10, 11", 40, 41, and 2026-08's 45, which have no place; the book is the caller's
 abbrev pub readOf : Found → Book → List ℤ → List ℕ → List ℤ → List ℕ → Reading.Outcome
 readOf r book prices marked flows factors = record {
   verdict = verdictBy (r .number) 0;
@@ -66,6 +68,10 @@ readOf r book prices marked flows factors = record {
 -- 2026-01: "10, 11 and the writer's 23", which have no place; the book is the caller's
 abbrev pub writeOf : Written → Book → List ℕ → Writing.Outcome
 writeOf r book buffer = record { verdict = verdictBy (r .number) 0; length = r .length; book = book; buffer = buffer }
+
+-- 2026-08: "10, 23, then 40 to 42", which have no place; the book is the caller's
+abbrev pub rewriteOf : Rewritten → Book → List ℕ → Rewriting.Outcome
+rewriteOf r book buffer = record { verdict = verdictBy (r .number) 0; next = r .next; book = book; buffer = buffer }
 
 -- 2026-07: "10, then 11 over the filled slices", which have no place; the book is the caller's
 abbrev pub synthesizedOf : Drawn → Book → List ℤ → List ℕ → List ℤ → List ℕ → Synthetic.Outcome
@@ -102,6 +108,9 @@ writtenBy v length = record { number = v .number; length = length }
 
 abbrev pub foundBy : Verdict → ℕ → ℕ → ℕ → Found
 foundBy v next entry kind = record { number = v .number; next = next; entry = entry; kind = kind }
+
+abbrev pub rewrittenBy : Verdict → ℕ → Rewritten
+rewrittenBy v next = record { number = v .number; next = next }
 
 abbrev pub drawnBy : Verdict → ℕ → ℕ → ℕ → Drawn
 drawnBy v seed entry kind = record { number = v .number; seed = seed; entry = entry; kind = kind }

@@ -9,6 +9,7 @@ use book::record::place_in;
 use book_calls::report::Reading;
 use entries::Publication;
 use image::storing::Image;
+use interval_rewriter::rewriting::Place;
 use interval_writer::writing::Size;
 use schedule::Making;
 use synthetic::Draw;
@@ -20,10 +21,11 @@ ghost use Rattle.entries.specs.Entering as Entering;
 ghost use Rattle.image.specs.Storing as Storing;
 ghost use Rattle.intervals.specs.Reading as Intervals;
 ghost use Rattle.interval_writer.specs.Writing as Writing;
+ghost use Rattle.interval_rewriter.specs.Rewriting as Rewriting;
 ghost use Rattle.planning.specs.Left as Planning;
 ghost use Rattle.schedule.specs.Schedule.{verdictOf, answered};
 ghost use Rattle.synthetic.specs.Synthetic as Synthetic;
-ghost use Rattle.face.specs.Face.{keptBy, takenBy, seenBy, writtenBy, foundBy, drawnBy, leftBy, rowsOf};
+ghost use Rattle.face.specs.Face.{keptBy, takenBy, seenBy, writtenBy, foundBy, rewrittenBy, drawnBy, leftBy, rowsOf};
 
 // `guxhamole_kept`: a call that hands back a book and nothing else.
 #[repr(C)]
@@ -66,6 +68,13 @@ pub struct Found {
     pub next: u64,
     pub entry: u32,
     pub kind: u32,
+}
+
+// `guxhamole_rewritten`: the place after an interval that was rewritten. A rewriting's refusals have no place.
+#[repr(C)]
+pub struct Rewritten {
+    pub number: u32,
+    pub next: u64,
 }
 
 // `guxhamole_drawn`: the last seed of a test load, with its entry number and its day kind. Its refusals have no place.
@@ -201,6 +210,21 @@ pub fn found_of(found: intervals::reading::Found) -> Found
             next: 0,
             entry: 0,
             kind: 0,
+        },
+    }
+}
+
+pub fn rewritten_of(place: Place) -> Rewritten
+    ensures { λ r. ⌜ r ≡ rewrittenBy (Rewriting.verdict place) (Rewriting.nextIn place) ⌝ }
+{
+    match place {
+        Place::After(after) => Rewritten {
+            number: 0,
+            next: after as u64,
+        },
+        Place::Refused(refusal) => Rewritten {
+            number: number(refusal),
+            next: 0,
         },
     }
 }

@@ -7,18 +7,14 @@
 //   i          write an interval: number, day kind, room in the buffer, which holds sevens
 //   s          fill what is lent with a synthetic interval: seed, number, day kind
 //   =          a heading to print; lines that begin with anything else are for the reader
-use crate::lists::byte_list;
 use crate::lists::number_list;
 use crate::lists::signed_list;
 use book::record::Book;
 use book::record::closed;
-use book::record::ring_size;
-use book_calls::opening::open;
 use interval_writer::writing::Size;
 use interval_writer::writing::write_interval;
 use intervals::reading::Found;
 use intervals::reading::read_interval;
-use stage::printing::answered;
 use stage::printing::number;
 use stage::printing::refusal;
 use stage::printing::say;
@@ -27,15 +23,16 @@ use stage::reading::bytes;
 use stage::reading::heading;
 use stage::reading::letter_at;
 use stage::reading::numbers;
-use stage::reading::settings;
 use stage::reading::signed_numbers;
 use stage::reading::size;
-use stage::reading::within;
+use stage::records::byte_list;
+use stage::records::bytes_within;
+use stage::records::gathered;
+use stage::records::opened;
+use stage::records::place;
 use synthetic::Draw;
 use synthetic::synthesize;
-ghost use mathlib.Core.Path.{_≡_};
-ghost use Prim.Native.Nat.{_<_, _≤_};
-ghost use lib.ListN.{length, take};
+ghost use Prim.Native.Nat.{_<_};
 
 // The place among the lines with what is lent of a line with this letter; the last is of all others.
 fn lent_place(letter: u8) -> usize
@@ -49,29 +46,6 @@ fn lent_place(letter: u8) -> usize
         b'w' => 4,
         _ => 7,
     }
-}
-
-// A place in records: -1 is the last that there can be.
-fn place(text: &[u8], at: usize) -> usize {
-    let mut z = [0i32; 1];
-    let mut n = [0u32; 1];
-    signed_numbers(text, at, &mut z);
-    numbers(text, at, &mut n);
-    if z[0] < 0 {
-        return 18446744073709551615;
-    }
-    size(n[0])
-}
-
-// A book of at most eight prices, over the ring that it asks for.
-fn opened(text: &[u8], at: usize, parents_at: usize) -> Book {
-    let mut ring = [0i32; 8];
-    let s = settings(text, at, parents_at);
-    let n = within(ring_size(s.regions, s.services, s.window), &ring);
-    let o = open(s, &mut ring[..n]);
-    let answer = o.answer;
-    answered(b"open", answer);
-    o.book
 }
 
 // Where the next interval is, and what its head says; or the refusal.
@@ -88,14 +62,6 @@ fn told(found: Found) {
         }
         Found::Refused(r) => refusal(r),
     }
-}
-
-// So many of a list's bytes as there are.
-fn bytes_within(n: usize, list: &[u8]) -> usize
-    ensures { λ r. ⌜ r ≤ length (now (list .entry)) ⌝ }
-    ensures { λ r. ⌜ r ≡ length (take r (now (list .entry))) ⌝ }
-{
-    if n < list.len() { n } else { list.len() }
 }
 
 // A read into what the lines say, and what they then hold.
@@ -233,21 +199,6 @@ fn called(
         b's' => drawn(book, text, at, lent),
         _ => book,
     }
-}
-
-// How many bytes of records there are after a line.
-fn gathered(letter: u8, text: &[u8], at: usize, records: &mut [u8], n: usize) -> usize {
-    let mut from = n;
-    if letter == b'n' {
-        from = 0;
-    }
-    if (letter != b'n') & (letter != b'a') {
-        return n;
-    }
-    if from > records.len() {
-        return n;
-    }
-    from + bytes(text, at, &mut records[from..])
 }
 
 pub fn play(text: &[u8]) {

@@ -28,18 +28,3 @@ pub fn number_list(name: &[u8], list: &[u32; 8], places: usize) {
         k += 1;
     }
 }
-
-fn wide_byte(b: u8) -> u64 {
-    b as u64
-}
-
-pub fn byte_list(name: &[u8], list: &[u8; 64], places: usize) {
-    say(name);
-    let mut k: usize = 0;
-    while k < 64 {
-        if k < places {
-            number(wide_byte(list[k]));
-        }
-        k += 1;
-    }
-}

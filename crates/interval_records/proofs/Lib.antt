@@ -1,7 +1,6 @@
-pub mod Counting
 pub mod Wholes
 pub mod Says
 pub mod Heads
-pub mod AnyOrder
+pub mod InOrder
 pub mod Verdicts
 pub mod Places

@@ -7,15 +7,14 @@ use native.Mathlib.Nat.{mul-le-mul-right}
 use native.Mathlib.Numerals.{add-one}
 use native.Mathlib.Omega.{arith}
 use borrow.Author.Tests.{eq-eqb, ne-eqb, le-leb, lt-leb}
-use lib.Dec.{eqb, leb, ltb}
+use lib.Dec.{eqb, leb}
 use lib.ListN.{length}
-use Rattle.laws.specs.Lists.{anyBelow}
 use Rattle.laws.specs.Bytes.{numberAt}
 use Rattle.pricing.specs.Verdict.{Verdict, accepted, refused}
 use Rattle.book.specs.Record.{isAccepted}
 use Rattle.interval_records.specs.Layout.{headLength, regionLength}
 use Rattle.interval_records.specs.Record.{lengthAt, kindAt, knownLength, whole, dueVerdict, headVerdict, recordPlace, regionAt, firstRefusal}
-use Rattle.interval_records.specs.AnyOrder.{stray, regionVerdict, recordsVerdict}
+use Rattle.interval_records.specs.InOrder.{nextVerdict, orderedVerdict}
 
 -- ---- the length of a known kind
 module _ (markets kind : ℕ) where
@@ -69,29 +68,23 @@ module _ (regions markets : ℕ) (bytes : List ℕ) (at : ℕ) where
     unfolding headVerdict
     head-0 t = rw (a, eq-eqb (numberAt bytes (at + 11) 1) regions t) refl
 
--- ---- a region's record: its own refusals, then 42
-module _ (regions markets : ℕ) (bytes : List ℕ) (first k : ℕ) where
+-- ---- a region's record: its own refusals, then 45
+module _ (markets : ℕ) (bytes : List ℕ) (first k : ℕ) where
   abbrev due : Verdict
   due = dueVerdict 17 markets bytes (recordPlace markets first k)
 
-  pub region-due : isAccepted due ≡ false → due ≡ regionVerdict regions markets bytes first k
-  unfolding regionVerdict
-  region-due a = rw a refl
+  pub next-due : isAccepted due ≡ false → due ≡ nextVerdict markets bytes first k
+  unfolding nextVerdict
+  next-due a = rw a refl
 
   module _ (a : isAccepted due ≡ true) where
-    pub region-42 : stray regions markets bytes first k ≡ true → refused 42 ≡ regionVerdict regions markets bytes first k
-    unfolding regionVerdict
-    region-42 s = rw (a, s) refl
+    pub next-45 : (regionAt markets bytes first k ≡ k → ⊥) → refused 45 ≡ nextVerdict markets bytes first k
+    unfolding nextVerdict
+    next-45 n = rw (a, ne-eqb (regionAt markets bytes first k) k n) refl
 
-    pub region-0 : stray regions markets bytes first k ≡ false → accepted ≡ regionVerdict regions markets bytes first k
-    unfolding regionVerdict
-    region-0 s = rw (a, s) refl
-
-  -- 42 of the region that was read
-  pub stray-by : (region : ℕ) (given : Bool) → region ≡ regionAt markets bytes first k
-      → given ≡ anyBelow k (λ j. eqb (regionAt markets bytes first j) region)
-      → (not (ltb region regions) || given) ≡ stray regions markets bytes first k
-  stray-by region given r g = rw (g, r) refl
+    pub next-0 : regionAt markets bytes first k ≡ k → accepted ≡ nextVerdict markets bytes first k
+    unfolding nextVerdict
+    next-0 e = rw (a, eq-eqb (regionAt markets bytes first k) k e) refl
 
 -- ---- records one after the other: those before record j are there where all n are
 pub room-at : (first size n j room : ℕ) → j < n → first + n * size ≤ room → first + j * size + size ≤ room
@@ -114,14 +107,14 @@ module _ (n k : ℕ) (f : ℕ → Verdict) where
   unfolding firstRefusal
   first-done l = let e : n - k ≡ 0 = omega arith in rw e refl
 
--- ---- the head, then the records
+-- ---- the head, then the records in number order
 module _ (regions markets : ℕ) (bytes : List ℕ) (at : ℕ) where
-  pub records-head : isAccepted (headVerdict regions markets bytes at) ≡ false
-      → headVerdict regions markets bytes at ≡ recordsVerdict regions markets bytes at
-  unfolding recordsVerdict
-  records-head a = rw a refl
+  pub ordered-head : isAccepted (headVerdict regions markets bytes at) ≡ false
+      → headVerdict regions markets bytes at ≡ orderedVerdict regions markets bytes at
+  unfolding orderedVerdict
+  ordered-head a = rw a refl
 
-  pub records-rest : isAccepted (headVerdict regions markets bytes at) ≡ true
-      → firstRefusal regions 0 (regionVerdict regions markets bytes (at + headLength)) ≡ recordsVerdict regions markets bytes at
-  unfolding recordsVerdict
-  records-rest a = rw a refl
+  pub ordered-rest : isAccepted (headVerdict regions markets bytes at) ≡ true
+      → firstRefusal regions 0 (nextVerdict markets bytes (at + headLength)) ≡ orderedVerdict regions markets bytes at
+  unfolding orderedVerdict
+  ordered-rest a = rw a refl

@@ -1,3 +1,3 @@
 pub mod Layout
 pub mod Record
-pub mod AnyOrder
+pub mod InOrder

@@ -1,4 +1,4 @@
-// Interval records from the plant bus: their layout, and the refusals of an interval's records.
-pub mod any_order;
+// Interval records from the plant bus: their layout, and the refusals of an interval's records in number order.
+pub mod in_order;
 pub mod layout;
-mod record;
+pub mod record;

@@ -40,7 +40,7 @@ fn whole(services: u8, bytes: &[u8], at: usize) -> bool
 }
 
 // 40 and 41 of the record at a place, where one of this kind is due.
-pub(crate) fn due_verdict(kind: u16, services: u8, bytes: &[u8], at: usize) -> Answer
+pub fn due_verdict(kind: u16, services: u8, bytes: &[u8], at: usize) -> Answer
     ensures { λ r. ⌜ verdict r ≡ dueVerdict kind (marketsOf services) (now (bytes .entry)) at ⌝ }
 {
     if !whole(services, bytes, at) {
@@ -53,7 +53,7 @@ pub(crate) fn due_verdict(kind: u16, services: u8, bytes: &[u8], at: usize) -> A
 }
 
 // 40 and 41 of the head at a place, its region total last.
-pub(crate) fn head_verdict(regions: u8, services: u8, bytes: &[u8], at: usize) -> Answer
+pub fn head_verdict(regions: u8, services: u8, bytes: &[u8], at: usize) -> Answer
     ensures { λ r. ⌜ verdict r ≡ headVerdict regions (marketsOf services) (now (bytes .entry)) at ⌝ }
 {
     let answer = due_verdict(16, services, bytes, at);

@@ -4,19 +4,19 @@ use mathlib.Core.List.{List, [], _∷_, _++_}
 use Prim.Native.Nat.{ℕ}
 use lib.IntN.{pos, negsuc}
 use lib.ListN.{replicate, take}
-use Rattle.laws.specs.Lists.{run, joined, anyBelow, allBelow, firstOf}
+use Rattle.laws.specs.Lists.{run, joined, allBelow}
 use Rattle.laws.specs.Bytes.{le, number, numberAt, encode, words}
 use Rattle.pricing.specs.Verdict.{Verdict, accepted, refused}
 use Rattle.book.specs.declared.record.Book.{Book}
 use Rattle.book.specs.Validity.{valid}
 use Rattle.interval_records.specs.Layout.{Interval, intervalOf, headWidths, regionWidths, headRecord, regionRecord, intervalBytes}
 use Rattle.interval_records.specs.Record.{whole, dueVerdict, headVerdict, firstRefusal}
-use Rattle.interval_records.specs.AnyOrder.{regionVerdict, recordsVerdict}
+use Rattle.interval_records.specs.InOrder.{nextVerdict, orderedVerdict}
 use Rattle.intervals.specs.Reading.{readVerdict, readInterval}
 use Rattle.intervals.specs.Reading as Reading
 use Rattle.interval_writer.specs.Writing.{writeLengths, writeInterval}
 
-abbrev two : Book
+abbrev pub two : Book
 two = record {
   regions = 2;
   services = 0;
@@ -35,23 +35,23 @@ two = record {
 }
 
 -- the head, and the records of region 0 (100,000) and of region 1 (90,000, flow 1, factor 11,000)
-abbrev head : ℕ → List ℕ
+abbrev pub head : ℕ → List ℕ
 head total = 12 ∷ 0 ∷ 0 ∷ 0 ∷ 16 ∷ 0 ∷ 0 ∷ 0 ∷ 0 ∷ 0 ∷ 0 ∷ total ∷ []
 
-abbrev first : List ℕ
+abbrev pub first : List ℕ
 first = 20 ∷ 0 ∷ 0 ∷ 0 ∷ 17 ∷ 0 ∷ 0 ∷ 0 ∷ 0 ∷ 0 ∷ 0 ∷ 0 ∷ 0 ∷ 0 ∷ 0 ∷ 0 ∷ 160 ∷ 134 ∷ 1 ∷ 0 ∷ []
 
-abbrev second : List ℕ
+abbrev pub second : List ℕ
 second = 20 ∷ 0 ∷ 0 ∷ 0 ∷ 17 ∷ 0 ∷ 1 ∷ 0 ∷ 1 ∷ 0 ∷ 0 ∷ 0 ∷ 248 ∷ 42 ∷ 0 ∷ 0 ∷ 144 ∷ 95 ∷ 1 ∷ 0 ∷ []
 
-abbrev upward : List ℕ
+abbrev pub upward : List ℕ
 upward = head 2 ++ (first ++ second)
 
-abbrev said : Interval
+abbrev pub said : Interval
 said = intervalOf 0 0 (pos 100000 ∷ pos 90000 ∷ []) (0 ∷ 0 ∷ []) (pos 0 ∷ pos 1 ∷ []) (0 ∷ 11000 ∷ [])
 
 -- what is lent, and stays after a refusal
-abbrev lent : Interval
+abbrev pub lent : Interval
 lent = intervalOf 0 0 (pos 7 ∷ pos 7 ∷ []) (7 ∷ 7 ∷ []) (pos 7 ∷ pos 7 ∷ []) (7 ∷ 7 ∷ [])
 
 bytes-are : intervalBytes 2 1 said ≡ upward
@@ -66,25 +66,25 @@ abbrev refusal : ℕ → Reading.Outcome
 refusal n = record { verdict = refused n; next = 0; book = two; interval = lent }
 
 reads-upward : reads upward ≡ record { verdict = accepted; next = 52; book = two; interval = said }
-unfolding readInterval readVerdict valid allBelow recordsVerdict headVerdict dueVerdict whole regionVerdict firstRefusal anyBelow firstOf numberAt number run
+unfolding readInterval readVerdict valid allBelow orderedVerdict headVerdict dueVerdict whole nextVerdict firstRefusal numberAt number run
 reads-upward = refl
 
-reads-exchanged : reads (head 2 ++ (second ++ first)) ≡ record { verdict = accepted; next = 52; book = two; interval = said }
-unfolding readInterval readVerdict valid allBelow recordsVerdict headVerdict dueVerdict whole regionVerdict firstRefusal anyBelow firstOf numberAt number run
-reads-exchanged = refl
+exchanged-45 : reads (head 2 ++ (second ++ first)) ≡ refusal 45
+unfolding readInterval readVerdict valid allBelow orderedVerdict headVerdict dueVerdict whole nextVerdict firstRefusal numberAt number run
+exchanged-45 = refl
 
 -- cut by a byte; a head with another total and nothing behind it; region 0 twice
 cut-40 : reads (take 51 upward) ≡ refusal 40
-unfolding readInterval readVerdict valid allBelow recordsVerdict headVerdict dueVerdict whole regionVerdict firstRefusal anyBelow firstOf numberAt number run
+unfolding readInterval readVerdict valid allBelow orderedVerdict headVerdict dueVerdict whole nextVerdict firstRefusal numberAt number run
 cut-40 = refl
 
 total-41 : reads (head 3) ≡ refusal 41
-unfolding readInterval readVerdict valid allBelow recordsVerdict headVerdict dueVerdict whole regionVerdict firstRefusal anyBelow firstOf numberAt number run
+unfolding readInterval readVerdict valid allBelow orderedVerdict headVerdict dueVerdict whole nextVerdict firstRefusal numberAt number run
 total-41 = refl
 
-twice-42 : reads (head 2 ++ (first ++ first)) ≡ refusal 42
-unfolding readInterval readVerdict valid allBelow recordsVerdict headVerdict dueVerdict whole regionVerdict firstRefusal anyBelow firstOf numberAt number run
-twice-42 = refl
+twice-45 : reads (head 2 ++ (first ++ first)) ≡ refusal 45
+unfolding readInterval readVerdict valid allBelow orderedVerdict headVerdict dueVerdict whole nextVerdict firstRefusal numberAt number run
+twice-45 = refl
 
 -- into 55 bytes and into 51
 written : writeInterval two said (replicate 55 7) ≡ record { verdict = accepted; length = 52; book = two; buffer = upward ++ (7 ∷ 7 ∷ 7 ∷ []) }

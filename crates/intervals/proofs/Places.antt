@@ -9,7 +9,7 @@ use Rattle.book.specs.Record.{marketsOf, isAccepted}
 use Rattle.book.specs.Validity.{valid}
 use Rattle.book.proofs.Places.{Placeless, no-place, either}
 use Rattle.interval_records.specs.Layout.{Interval}
-use Rattle.interval_records.proofs.Places.{records-place}
+use Rattle.interval_records.proofs.Places.{ordered-place}
 use Rattle.intervals.specs.Lent.{slicesOk}
 use Rattle.intervals.specs.Reading.{readVerdict, readInterval}
 
@@ -18,7 +18,7 @@ module _ (b : Book) (bytes : List ℕ) (at : ℕ) (lent : Interval) where
   unfolding readVerdict
   verdict-place =
       either (not (valid b)) (no-place 10)
-      (either (not (slicesOk b lent)) (no-place 11) (records-place (b .regions) (marketsOf (b .services)) bytes at))
+      (either (not (slicesOk b lent)) (no-place 11) (ordered-place (b .regions) (marketsOf (b .services)) bytes at))
 
   pub read-place : readInterval b bytes at lent .verdict .place ≡ 0
   unfolding readInterval

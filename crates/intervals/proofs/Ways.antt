@@ -2,13 +2,11 @@
 use mathlib.Core.Path.{_≡_, refl, sym, ap, _∙_}
 use mathlib.Core.Bool.{true, false}
 use mathlib.Core.List.{List, _++_}
-use Prim.Native.Nat.{ℕ, zero, suc, _+_, _*_, _<_, _≤_}
-use native.Mathlib.Nat.{zero-mul, mul-le-mul-right, suc-mul}
+use Prim.Native.Nat.{ℕ, _+_, _*_, _<_, _≤_}
+use native.Mathlib.Nat.{mul-le-mul-right, suc-mul}
 use native.Mathlib.Omega.{arith}
 use lib.IntN.{ℤ}
 use lib.ListN.{length, drop}
-use mir.Syntax.{w32}
-use mir.Val.{toZ}
 use Rattle.laws.specs.Lists.{run, tabulate}
 use Rattle.laws.specs.Bytes.{numberAt, priceAt}
 use Rattle.laws.proofs.Tests.{by-test, true-is}
@@ -26,50 +24,29 @@ use Rattle.intervals.specs.declared.reading.Found.the-variants.{At, Refu
 use Rattle.interval_records.specs.Layout.{Interval, headLength, regionLength, lengthFor, intervalOf}
 use Rattle.intervals.specs.Lent.{slicesOk}
 use Rattle.intervals.specs.Working.{lentVerdict}
-use Rattle.interval_records.specs.AnyOrder.{recordsVerdict, recordOf}
+use Rattle.interval_records.specs.Record.{recordPlace}
+use Rattle.interval_records.specs.InOrder.{orderedVerdict}
 use Rattle.intervals.specs.Reading.{markFrom, flowFrom, factorFrom, priceFrom, readVerdict, Outcome, outcome, readInterval}
-use Rattle.interval_records.proofs.AnyOrder.{given-is, record-below}
+use Rattle.interval_records.proofs.InOrder.{ordered-is, dues-room}
 use Rattle.intervals.proofs.Sizes.{prices-size, marked-size, flows-size, factors-size}
 
--- ---- the room of an accepted interval: its head, all its records and each region's own
-module _ (R M : ℕ) (bytes : List ℕ) (at : ℕ) (e : isAccepted (recordsVerdict R M bytes at) ≡ true) where
+-- ---- the room of an accepted interval: its head, and all its records
+module _ (R M : ℕ) (bytes : List ℕ) (at : ℕ) (e : isAccepted (orderedVerdict R M bytes at) ≡ true) where
   pub head-room : at + headLength ≤ length bytes
-  head-room = given-is R M bytes at e .head .room
+  head-room = ordered-is R M bytes at e .head .room
 
   pub records-room : at + headLength + R * regionLength M ≤ length bytes
-  records-room = most R refl
-    where
-      most : (n : ℕ) → R ≡ n → at + headLength + R * regionLength M ≤ length bytes
-      most zero q = let z : R * regionLength M ≡ 0 = rw q (zero-mul (regionLength M)) in omega (arith, head-room)
-      most (suc n) q =
-          let z : R * regionLength M ≡ suc n * regionLength M = ap (λ (k : ℕ). k * regionLength M) q in
-          omega (arith, z, suc-mul n (regionLength M), given-is R M bytes at e .due n (omega arith) .room)
-
-  pub region-room : (r : ℕ) → r < R → (k : ℕ) → k ≡ recordOf R M bytes (at + headLength) r
-      → at + headLength + k * regionLength M + regionLength M ≤ length bytes
-  region-room r h k q =
-      let g = given-is R M bytes at e in
-      rw q (g .due (recordOf R M bytes (at + headLength) r) (record-below R M bytes at g r h) .room)
+  records-room = dues-room R M bytes (at + headLength) head-room (ordered-is R M bytes at e .due) R (omega arith)
 
 -- region r's prices end within R × M of them
 pub row-in : (r R M : ℕ) → r < R → r * M + M ≤ R * M
 row-in r R M h = omega (arith, mul-le-mul-right M h, suc-mul r M)
 
--- ---- a turn of the loop over the regions: record k is region r's
-module _ (M : ℕ) (bytes : List ℕ) (first : ℕ) (which : ℕ → ℕ) (r k : ℕ) (q : k ≡ which r) where
-  pub mark-of : numberAt bytes (first + k * regionLength M + 7) 1 ≡ markFrom M bytes first which r
-  mark-of = rw q refl
-
-  pub flow-of : toZ w32 (numberAt bytes (first + k * regionLength M + 8) 4) ≡ flowFrom M bytes first which r
-  flow-of = rw q refl
-
-  pub factor-of : numberAt bytes (first + k * regionLength M + 12) 4 ≡ factorFrom M bytes first which r
-  factor-of = rw q refl
-
-  pub row-of : tabulate M (priceAt bytes (first + k * regionLength M + 16)) ≡ run M (r * M) (priceFrom M bytes first which)
-  row-of =
-      run-same M 0 (r * M) (priceAt bytes (first + k * regionLength M + 16)) (priceFrom M bytes first which)
-      (λ m h. let z : 0 + m ≡ m = omega arith in rw (flat-div r m M h, flat-mod r m M h, z, q) refl)
+-- ---- the prices of region r, a row of the table: its record is record r
+pub row-of : (M : ℕ) (bytes : List ℕ) (first r : ℕ) → tabulate M (priceAt bytes (recordPlace M first r + 16)) ≡ run M (r * M) (priceFrom M bytes first (λ k. k))
+row-of M bytes first r =
+    run-same M 0 (r * M) (priceAt bytes (recordPlace M first r + 16)) (priceFrom M bytes first (λ k. k))
+    (λ m h. let z : 0 + m ≡ m = omega arith in rw (flat-div r m M h, flat-mod r m M h, z) refl)
 
 -- ---- the call, by the answers of its tests: `v` holds the four slices that are lent
 module _ (b : Book) (bytes : List ℕ) (at : ℕ) (v : Interval) where
@@ -80,7 +57,7 @@ module _ (b : Book) (bytes : List ℕ) (at : ℕ) (v : Interval) where
   first-tests = lentVerdict b (length (v .prices)) (length (v .marked)) (length (v .flows)) (length (v .factors))
 
   abbrev then-tests : Verdict
-  then-tests = recordsVerdict (b .regions) (marketsOf (b .services)) bytes at
+  then-tests = orderedVerdict (b .regions) (marketsOf (b .services)) bytes at
 
   abbrev refusal : Refusal → Outcome
   refusal r = outcome (record { book = b; found = Not-found r }) (v .prices) (v .marked) (v .flows) (v .factors)
@@ -127,7 +104,7 @@ module _ (b : Book) (bytes : List ℕ) (at : ℕ) (v : Interval) where
       records-same = rw (passed .0, passed .1) refl
 
       module _ (c : Answer) (g : verdict c ≡ then-tests) where
-        -- refused by 40 to 42
+        -- refused by 40, 41 or 45
         pub read-refused : (r : Refusal) → c ≡ Refused r → refusal r ≡ readInterval b bytes at lent
         unfolding readInterval
         read-refused r w =
@@ -143,17 +120,14 @@ module _ (b : Book) (bytes : List ℕ) (at : ℕ) (v : Interval) where
           abbrev M : ℕ
           M = marketsOf (b .services)
 
-          abbrev which : ℕ → ℕ
-          which = recordOf (b .regions) M bytes (at + headLength)
-
           pub read-accepted : (next number kind : ℕ) (prices : List ℤ) (marked : List ℕ) (flows : List ℤ) (factors : List ℕ)
               → next ≡ at + lengthFor b
               → number ≡ numberAt bytes (at + 6) 4
               → kind ≡ numberAt bytes (at + 10) 1
-              → prices ≡ tabulate (b .regions * M) (priceFrom M bytes (at + headLength) which)
-              → marked ≡ tabulate (b .regions) (markFrom M bytes (at + headLength) which) ++ drop (b .regions) (v .marked)
-              → flows ≡ tabulate (b .regions) (flowFrom M bytes (at + headLength) which) ++ drop (b .regions) (v .flows)
-              → factors ≡ tabulate (b .regions) (factorFrom M bytes (at + headLength) which) ++ drop (b .regions) (v .factors)
+              → prices ≡ tabulate (b .regions * M) (priceFrom M bytes (at + headLength) (λ r. r))
+              → marked ≡ tabulate (b .regions) (markFrom M bytes (at + headLength) (λ r. r)) ++ drop (b .regions) (v .marked)
+              → flows ≡ tabulate (b .regions) (flowFrom M bytes (at + headLength) (λ r. r)) ++ drop (b .regions) (v .flows)
+              → factors ≡ tabulate (b .regions) (factorFrom M bytes (at + headLength) (λ r. r)) ++ drop (b .regions) (v .factors)
               → outcome (record { book = b; found = At next number kind }) prices marked flows factors ≡ readInterval b bytes at lent
           unfolding readInterval
           read-accepted next number kind prices marked flows factors en em ek ep ea ef ex =

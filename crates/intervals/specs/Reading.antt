@@ -18,7 +18,7 @@ use Rattle.intervals.specs.declared.reading.Taken.{Taken}
 use Rattle.interval_records.specs.Layout.{Interval, intervalOf, headLength, lengthFor}
 use Rattle.intervals.specs.Lent.{slicesOk}
 use Rattle.interval_records.specs.Record.{recordPlace}
-use Rattle.interval_records.specs.AnyOrder.{recordsVerdict, recordOf}
+use Rattle.interval_records.specs.InOrder.{orderedVerdict}
 
 -- ---- what the records say
 -- "region (1), mark (1), flow (4), factor (4), M prices (4 each)": the numbers of region r, whose record is `which r` of those from
@@ -49,12 +49,12 @@ intervalAt regions markets bytes at which = record {
 }
 
 -- ---- the call
--- "10, 11 .. come first; per record 40, 41, 42"
+-- "10, 11 .. come first; per record 40, 41", and of "45 .. in the reader it takes the place of 42"
 unfoldable pub readVerdict : Book → Interval → List ℕ → ℕ → Verdict
 readVerdict b lent bytes at =
     pick (not (valid b)) (refused 10)
     (pick (not (slicesOk b lent)) (refused 11)
-    (recordsVerdict (b .regions) (marketsOf (b .services)) bytes at))
+    (orderedVerdict (b .regions) (marketsOf (b .services)) bytes at))
 
 pub record Outcome : Type 0 where
   pub verdict : Verdict
@@ -97,6 +97,6 @@ readInterval b bytes at lent =
       verdict = accepted;
       next = at + lengthFor b;
       book = b;
-      interval = intervalAt regions markets bytes at (recordOf regions markets bytes (at + headLength));
+      interval = intervalAt regions markets bytes at (λ r. r);
     })
     (record { verdict = readVerdict b lent bytes at; next = 0; book = b; interval = lent })

@@ -1,4 +1,4 @@
-// Reading an interval from its records.
+// Reading an interval from its records, its regions in number order.
 use crate::lent::lent_verdict;
 use book::record::Answer;
 use book::record::Book;
@@ -7,11 +7,9 @@ use codec::get_u8;
 use codec::get_u32;
 use codec::get_word;
 use codec::get_words;
-use interval_records::any_order::record_of;
-use interval_records::any_order::records_verdict;
+use interval_records::in_order::ordered_verdict;
 use interval_records::layout::interval_length;
 ghost use mathlib.Core.Path.{_≡_};
-ghost use mathlib.Core.Bool.{Bool, true};
 ghost use mathlib.Core.List.{_++_};
 ghost use Prim.Native.Nat.{_+_, _*_, _≤_, _<_};
 ghost use lib.ListN.{length, set, drop};
@@ -20,9 +18,7 @@ ghost use mir.Syntax.{w32};
 ghost use mir.Val.{toZ};
 ghost use Rattle.laws.specs.Lists.{tabulate};
 ghost use Rattle.laws.specs.Bytes.{numberAt, priceAt};
-ghost use Rattle.book.specs.Record.{isAccepted};
-ghost use Rattle.interval_records.specs.Layout.{headLength, regionLength, intervalOf};
-ghost use Rattle.interval_records.specs.AnyOrder.{recordsVerdict, recordOf};
+ghost use Rattle.interval_records.specs.Layout.{regionLength, intervalOf};
 ghost use Rattle.intervals.specs.Reading.{priceFrom, markFrom, flowFrom, factorFrom, outcome, readInterval};
 
 // The place after the interval with its number and day kind, or the first refusal.
@@ -61,37 +57,34 @@ fn read_region(
     get_words(bytes, at + 16, markets, prices, region * markets);
 }
 
-// The numbers of every region, of the accepted interval at a place.
+// The numbers of every region, record r being region r's, of the interval whose records begin at `first`.
 fn read_regions(
     regions: usize,
     markets: usize,
     bytes: &[u8],
-    at: usize,
+    first: usize,
     prices: &mut [i32],
     marked: &mut [u8],
     flows: &mut [i32],
     factors: &mut [u32],
 )
-    requires { ⌜ (markets ≤ 256) × (isAccepted (recordsVerdict regions markets (now bytes) at) ≡ true) ⌝ }
+    requires { ⌜ (markets ≤ 256) × (first + regions * regionLength markets ≤ length (now bytes)) ⌝ }
     requires { ⌜ (length (now prices) ≡ regions * markets) × (regions ≤ length (now marked)) ⌝ }
     requires { ⌜ (regions ≤ length (now flows)) × (regions ≤ length (now factors)) ⌝ }
-    ensures { λ _. ⌜ (let bytes = now (bytes .entry) in let first = at + headLength in let which = recordOf regions markets bytes first in
-        now (prices .exit) ≡ tabulate (regions * markets) (priceFrom markets bytes first which)) ⌝ }
-    ensures { λ _. ⌜ (let bytes = now (bytes .entry) in let first = at + headLength in let which = recordOf regions markets bytes first in
-        now (marked .exit) ≡ tabulate regions (markFrom markets bytes first which) ++ drop regions (now (marked .entry))) ⌝ }
-    ensures { λ _. ⌜ (let bytes = now (bytes .entry) in let first = at + headLength in let which = recordOf regions markets bytes first in
-        now (flows .exit) ≡ tabulate regions (flowFrom markets bytes first which) ++ drop regions (now (flows .entry))) ⌝ }
-    ensures { λ _. ⌜ (let bytes = now (bytes .entry) in let first = at + headLength in let which = recordOf regions markets bytes first in
-        now (factors .exit) ≡ tabulate regions (factorFrom markets bytes first which) ++ drop regions (now (factors .entry))) ⌝ }
+    ensures { λ _. ⌜ now (prices .exit) ≡ tabulate (regions * markets) (priceFrom markets (now (bytes .entry)) first (λ r. r)) ⌝ }
+    ensures { λ _. ⌜ (let said = tabulate regions (markFrom markets (now (bytes .entry)) first (λ r. r)) in
+        now (marked .exit) ≡ said ++ drop regions (now (marked .entry))) ⌝ }
+    ensures { λ _. ⌜ (let said = tabulate regions (flowFrom markets (now (bytes .entry)) first (λ r. r)) in
+        now (flows .exit) ≡ said ++ drop regions (now (flows .entry))) ⌝ }
+    ensures { λ _. ⌜ (let said = tabulate regions (factorFrom markets (now (bytes .entry)) first (λ r. r)) in
+        now (factors .exit) ≡ said ++ drop regions (now (factors .entry))) ⌝ }
 {
-    let first = at + 12;
     let size = 16 + 4 * markets;
     let mut r: usize = 0;
     while r < regions {
-        let k = record_of(regions, markets, bytes, first, r);
         read_region(
             bytes,
-            first + k * size,
+            first + r * size,
             r,
             markets,
             prices,
@@ -124,7 +117,7 @@ pub fn read_interval(
             found: Found::Refused(refusal),
         };
     }
-    let answer = records_verdict(book.regions, book.services, bytes, at);
+    let answer = ordered_verdict(book.regions, book.services, bytes, at);
     if let Answer::Refused(refusal) = answer {
         return Taken {
             book,
@@ -133,7 +126,16 @@ pub fn read_interval(
     }
     let regions = book.regions as usize;
     let markets = book.services as usize + 1;
-    read_regions(regions, markets, bytes, at, prices, marked, flows, factors);
+    read_regions(
+        regions,
+        markets,
+        bytes,
+        at + 12,
+        prices,
+        marked,
+        flows,
+        factors,
+    );
     let found = Found::At {
         next: at + interval_length(book.regions, book.services),
         number: get_u32(bytes, at + 6),

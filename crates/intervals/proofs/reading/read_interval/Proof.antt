@@ -8,7 +8,7 @@ use lib.ListN.{length}
 use Rattle.laws.specs.Bytes.{numberAt}
 use Rattle.book.specs.Record.{marketsOf, isAccepted}
 use Rattle.interval_records.specs.Layout.{Interval, headLength, regionLength, lengthFor, intervalOf}
-use Rattle.interval_records.specs.AnyOrder.{recordsVerdict}
+use Rattle.interval_records.specs.InOrder.{orderedVerdict}
 use Rattle.intervals.proofs.Ways.{head-room, records-room, read-lent, lengths, markets-few, read-refused}
 use Rattle.intervals.proofs.Ways.{records-accepted, read-accepted}
 use Rattle.intervals.proofs.reading.read_interval.Statement.{statement}
@@ -21,14 +21,14 @@ lent s = let a = s .args in intervalOf 0 0 (a .prices .now) (a .marked .now) (a 
 -- what the tests say where both accept
 accepts : (e : tie.After-enum-told2)
     → let a = e .before .before .before .before .before .before .before .before .before .args in
-    isAccepted (recordsVerdict (a .book .regions) (marketsOf (a .book .services)) (a .bytes .now) (a .at)) ≡ true
+    isAccepted (orderedVerdict (a .book .regions) (marketsOf (a .book .services)) (a .bytes .now) (a .at)) ≡ true
 accepts e =
     let w = e .before .before .before in
     let v = w .before .before in
     let s = v .before .before .before .before in
     let a = s .args in
     records-accepted (a .book) (a .bytes .now) (a .at) (lent s) _ (v .lent-verdict .ensures) (w .enum-told .given .1)
-    _ (e .before .before .records-verdict .ensures) (e .enum-told2 .given .1)
+    _ (e .before .before .ordered-verdict .ensures) (e .enum-told2 .given .1)
 
 lent-verdict-requires : tie.Need-lent-verdict-requires
 lent-verdict-requires c κs = search needs
@@ -46,8 +46,8 @@ returns c =
 enum-told : tie.Need-enum-told
 enum-told c = search needs
 
-records-verdict-requires : tie.Need-records-verdict-requires
-records-verdict-requires c κs = search needs
+ordered-verdict-requires : tie.Need-ordered-verdict-requires
+ordered-verdict-requires c κs = search needs
 
 enum-known-answer : tie.Need-enum-known-answer
 enum-known-answer c = search needs
@@ -59,7 +59,7 @@ returns-2 c =
     let s = v .before .before .before .before in
     let a = s .args in
     read-refused (a .book) (a .bytes .now) (a .at) (lent s) _ (v .lent-verdict .ensures) (w .before .enum-told .given .1)
-    _ (w .records-verdict .ensures) _ (c .before .answer .given .1)
+    _ (w .ordered-verdict .ensures) _ (c .before .answer .given .1)
 
 enum-told-2 : tie.Need-enum-told-2
 enum-told-2 c = search needs
@@ -72,17 +72,6 @@ cast-markets c = search needs
 
 add-markets : tie.Need-add-markets
 add-markets c = search needs
-
-read-regions-requires : tie.Need-read-regions-requires
-read-regions-requires c κs =
-    let e = c .before .before .before .before .before .before in
-    let w = e .before .before .before in
-    let v = w .before .before in
-    let s = v .before .before .before .before in
-    let a = s .args in
-    let l = lengths (a .book) (a .bytes .now) (a .at) (lent s) _ (v .lent-verdict .ensures) (w .enum-told .given .1) in
-    let m = markets-few (a .book) (a .bytes .now) (a .at) (lent s) _ (v .lent-verdict .ensures) (w .enum-told .given .1) in
-    ((m, accepts e), ((l .0, omega (arith, l .1)), (omega (arith, l .2), omega (arith, l .3))))
 
 -- the room of its head and of all its records, in a slice that has its length
 room : (e : tie.After-enum-told2)
@@ -98,6 +87,20 @@ room e =
       omega (arith, s .good .1 .0),
     )
 
+add-read-regions : tie.Need-add-read-regions
+add-read-regions c = omega (arith, room (c .before .before))
+
+read-regions-requires : tie.Need-read-regions-requires
+read-regions-requires c κs =
+    let e = c .before .before .before .before .before .before in
+    let w = e .before .before .before in
+    let v = w .before .before in
+    let s = v .before .before .before .before in
+    let a = s .args in
+    let l = lengths (a .book) (a .bytes .now) (a .at) (lent s) _ (v .lent-verdict .ensures) (w .enum-told .given .1) in
+    let m = markets-few (a .book) (a .bytes .now) (a .at) (lent s) _ (v .lent-verdict .ensures) (w .enum-told .given .1) in
+    ((m, room e .1), ((l .0, omega (arith, l .1)), (omega (arith, l .2), omega (arith, l .3))))
+
 -- where they stand: before the length of the interval is asked
 abbrev told : tie.After-slice-known4 → tie.After-enum-told2
 told c = c .before .before .before .before .before .before .before .before .before .before .before .before .before
@@ -105,8 +108,8 @@ told c = c .before .before .before .before .before .before .before .before .befo
 interval-length-requires : tie.Need-interval-length-requires
 interval-length-requires c κs = search needs
 
-add-t17 : tie.Need-add-t17
-add-t17 c = omega (arith, room (told (c .before)), c .interval-length .ensures .0)
+add-t16 : tie.Need-add-t16
+add-t16 c = omega (arith, room (told (c .before)), c .interval-length .ensures .0)
 
 add-get-u32 : tie.Need-add-get-u32
 add-get-u32 c = omega (arith, room (told (c .before)))
@@ -146,7 +149,7 @@ returns-3 c =
     let kind : c .get-u8 .result ≡ numberAt (a .bytes .now) (a .at + 10) 1 = c .get-u8 .ensures in
     let p = g .read-regions .ensures in
     read-accepted (a .book) (a .bytes .now) (a .at) (lent s) _ (v .lent-verdict .ensures) (w .enum-told .given .1)
-    _ (e .before .before .records-verdict .ensures) (e .enum-told2 .given .1)
+    _ (e .before .before .ordered-verdict .ensures) (e .enum-told2 .given .1)
     _ _ _ _ _ _ _ (ap (λ (k : ℕ). a .at + k) next) number kind (p .0) (p .1 .0) (p .1 .1 .0) (p .1 .1 .1)
 
 pub read-interval-spec : {M : Type 1} → statement M
@@ -157,16 +160,17 @@ read-interval-spec =
     enum-known-lent
     returns
     enum-told
-    records-verdict-requires
+    ordered-verdict-requires
     enum-known-answer
     returns-2
     enum-told-2
     cast-regions
     cast-markets
     add-markets
+    add-read-regions
     read-regions-requires
     interval-length-requires
-    add-t17
+    add-t16
     add-get-u32
     get-u32-requires
     add-get-u8

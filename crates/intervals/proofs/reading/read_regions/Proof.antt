@@ -1,52 +1,36 @@
 -- `intervals::reading::read_regions` meets its contract. The loop's invariant: the numbers of the regions passed are stored,
--- each from its own record. Assumes nothing.
+-- region r's from record r. Assumes nothing.
 use mathlib.Core.Path.{_≡_, refl, _∙_}
-use mathlib.Core.List.{List, _++_}
-use Prim.Native.Nat.{ℕ, _≤_, _<_, _-_, _+_, _*_}
+use mathlib.Core.List.{_++_}
+use Prim.Native.Nat.{_≤_, _<_, _-_, _+_, _*_}
 use native.Mathlib.Omega.{arith}
 use lib.ListN.{length, drop}
 use lib.Seq.{sets}
 use Rattle.laws.specs.Lists.{run, tabulate}
 use Rattle.laws.proofs.Lists.{tab-none, tab-step}
 use Rattle.laws.proofs.Rows.{rows-none, rows-step, rows-done}
-use Rattle.interval_records.specs.Layout.{headLength, regionLength}
-use Rattle.interval_records.specs.AnyOrder.{recordOf}
+use Rattle.interval_records.specs.Layout.{regionLength}
+use Rattle.interval_records.specs.Record.{recordPlace}
+use Rattle.interval_records.proofs.Verdicts.{room-at}
 use Rattle.intervals.specs.Reading.{priceFrom, markFrom, flowFrom, factorFrom}
-use Rattle.intervals.proofs.Ways.{head-room, records-room, region-room, row-in}
-use Rattle.intervals.proofs.Ways.{mark-of, flow-of, factor-of, row-of}
+use Rattle.intervals.proofs.Ways.{row-in, row-of}
 use Rattle.intervals.proofs.reading.read_regions.Statement.{statement}
 use Rattle.intervals.proofs.reading.read_regions.Tie as tie
 
--- each region's record
-abbrev which : ℕ → ℕ → List ℕ → ℕ → ℕ → ℕ
-which regions markets bytes at = recordOf regions markets bytes (at + headLength)
-
 abbrev Inv-loop : tie.InvT-loop
-Inv-loop regions markets bytes at prices₀ marked₀ flows₀ factors₀ first size r₀ prices marked flows factors r =
+Inv-loop regions markets bytes first prices₀ marked₀ flows₀ factors₀ size r₀ prices marked flows factors r =
     (r ≤ regions)
     × ((length prices ≡ length prices₀)
     × (length marked ≡ length marked₀)
     × (length flows ≡ length flows₀)
     × (length factors ≡ length factors₀))
-    × (prices ≡ sets prices₀ 0 (run (r * markets) 0 (priceFrom markets bytes (at + headLength) (which regions markets bytes at))))
-    × (marked ≡ tabulate r (markFrom markets bytes (at + headLength) (which regions markets bytes at)) ++ drop r marked₀)
-    × (flows ≡ tabulate r (flowFrom markets bytes (at + headLength) (which regions markets bytes at)) ++ drop r flows₀)
-    × (factors ≡ tabulate r (factorFrom markets bytes (at + headLength) (which regions markets bytes at)) ++ drop r factors₀)
+    × (prices ≡ sets prices₀ 0 (run (r * markets) 0 (priceFrom markets bytes first (λ k. k))))
+    × (marked ≡ tabulate r (markFrom markets bytes first (λ k. k)) ++ drop r marked₀)
+    × (flows ≡ tabulate r (flowFrom markets bytes first (λ k. k)) ++ drop r flows₀)
+    × (factors ≡ tabulate r (factorFrom markets bytes first (λ k. k)) ++ drop r factors₀)
 
 abbrev μ-loop : tie.MeasureT-loop
-μ-loop regions markets bytes at prices₀ marked₀ flows₀ factors₀ first size r₀ prices marked flows factors r = regions - r
-
--- the room of the records
-room : (s : tie.Start Inv-loop μ-loop)
-    → let a = s .args in
-    (a .at + headLength ≤ length (a .bytes .now)) × (a .at + headLength + a .regions * regionLength (a .markets) ≤ length (a .bytes .now))
-room s = let a = s .args in (
-  head-room (a .regions) (a .markets) (a .bytes .now) (a .at) (s .pre .0 .1),
-  records-room (a .regions) (a .markets) (a .bytes .now) (a .at) (s .pre .0 .1),
-)
-
-add-first : tie.Need-add-first Inv-loop μ-loop
-add-first c = omega (arith, room (c .before .before .before))
+μ-loop regions markets bytes first prices₀ marked₀ flows₀ factors₀ size r₀ prices marked flows factors r = regions - r
 
 mul-size : tie.Need-mul-size Inv-loop μ-loop
 mul-size c = omega (arith, c .before .before .before .pre .0 .0)
@@ -57,19 +41,13 @@ add-size c = omega (arith, c .before .before .before .pre .0 .0)
 loop-holds : tie.Need-loop-holds Inv-loop μ-loop
 loop-holds c = (omega arith, (refl, refl, refl, refl), rows-none _ _ _, tab-none _ _, tab-none _ _, tab-none _ _)
 
-record-of-requires : tie.Need-record-of-requires Inv-loop μ-loop
-record-of-requires c κs = let s = c .before .before .before .before .before in (s .pre .0 .0, room s .1)
-
--- the room of the record that was found
-here : (c : tie.After-record-of Inv-loop μ-loop)
-    → let a = c .before .before .before .before .before .before .args in
-    a .at + headLength + c .record-of .result * regionLength (a .markets) + regionLength (a .markets) ≤ length (a .bytes .now)
+-- the room of record r
+here : (c : tie.In-loop Inv-loop μ-loop) → let a = c .before .before .before .before .before .args in
+    recordPlace (a .markets) (a .first) (c .before .loop .r) + regionLength (a .markets) ≤ length (a .bytes .now)
 here c =
-    let s = c .before .before .before .before .before .before in
+    let s = c .before .before .before .before .before in
     let a = s .args in
-    let l = c .before .before .loop in
-    let h : l .r < a .regions = omega arith in
-    region-room (a .regions) (a .markets) (a .bytes .now) (a .at) (s .pre .0 .1) (l .r) h (c .record-of .result) (c .record-of .ensures)
+    room-at (a .first) (regionLength (a .markets)) (a .regions) (c .before .loop .r) _ (omega arith) (s .pre .0 .1)
 
 mul-read-region : tie.Need-mul-read-region Inv-loop μ-loop
 mul-read-region c = omega (arith, here c)
@@ -80,8 +58,8 @@ add-read-region c = omega (arith, here c)
 read-region-requires : tie.Need-read-region-requires Inv-loop μ-loop
 read-region-requires c κs =
     let k = c .before .before .before .before in
-    let l = k .before .before .loop in
-    let s = k .before .before .before .before .before .before in
+    let l = k .before .loop in
+    let s = k .before .before .before .before .before in
     let h : l .r < s .args .regions = omega arith in (
       (here k, omega (arith, row-in (l .r) (s .args .regions) (s .args .markets) h, s .pre .1 .0, l .inv .1)),
       (omega (arith, s .pre .1 .0, l .inv .1), omega (arith, s .pre .1 .1, l .inv .1), omega (arith, s .pre .1 .1, l .inv .1)),
@@ -97,26 +75,17 @@ loop-again : tie.Need-loop-again Inv-loop μ-loop
 loop-again c =
     let n = c .before .before .before .before .before .before .read-region in
     let k = c .before .before .before .before .before .before .before .before .before .before .before in
-    let l = k .before .before .loop in
-    let s = k .before .before .before .before .before .before in
-    let a = s .args in
-    let bytes = a .bytes .now in
-    let first = a .at + headLength in
-    let of = which (a .regions) (a .markets) bytes (a .at) in
-    let x = k .record-of .result in
-    let q : x ≡ of (l .r) = k .record-of .ensures in
-    let mark = mark-of (a .markets) bytes first of (l .r) x q in
-    let flow = flow-of (a .markets) bytes first of (l .r) x q in
-    let factor = factor-of (a .markets) bytes first of (l .r) x q in
-    let row = row-of (a .markets) bytes first of (l .r) x q in
-    let f = priceFrom (a .markets) bytes first of in
+    let l = k .before .loop in
+    let a = k .before .before .before .before .before .args in
+    let row = row-of (a .markets) (a .bytes .now) (a .first) (l .r) in
+    let f = priceFrom (a .markets) (a .bytes .now) (a .first) (λ i. i) in
     let t = n .kept .1 .1 .1 .1 in (
       omega arith,
       (t .0 ∙ l .inv .1 .0, t .1 .0 ∙ l .inv .1 .1, t .1 .1 .0 ∙ l .inv .1 .2, t .1 .1 .1 .0 ∙ l .inv .1 .3),
       n .ensures .0 ∙ rows-step f (a .markets) (a .prices .now) (l .prices) _ (l .r) (l .inv .2) row,
-      n .ensures .1 .0 ∙ tab-step _ (l .r) (a .marked .now) (l .marked) _ (l .inv .3) (omega arith) mark,
-      n .ensures .1 .1 .0 ∙ tab-step _ (l .r) (a .flows .now) (l .flows) _ (l .inv .4) (omega arith) flow,
-      n .ensures .1 .1 .1 ∙ tab-step _ (l .r) (a .factors .now) (l .factors) _ (l .inv .5) (omega arith) factor,
+      n .ensures .1 .0 ∙ tab-step _ (l .r) (a .marked .now) (l .marked) _ (l .inv .3) (omega arith) refl,
+      n .ensures .1 .1 .0 ∙ tab-step _ (l .r) (a .flows .now) (l .flows) _ (l .inv .4) (omega arith) refl,
+      n .ensures .1 .1 .1 ∙ tab-step _ (l .r) (a .factors .now) (l .factors) _ (l .inv .5) (omega arith) refl,
     )
 
 same-length : tie.Need-same-length Inv-loop μ-loop
@@ -137,7 +106,7 @@ returns c =
     let s = c .before .before .before .before .before in
     let a = s .args in
     let e : l .r ≡ a .regions = omega arith in
-    let f = priceFrom (a .markets) (a .bytes .now) (a .at + headLength) (which (a .regions) (a .markets) (a .bytes .now) (a .at)) in
+    let f = priceFrom (a .markets) (a .bytes .now) (a .first) (λ k. k) in
     let p = rows-done f (a .markets) (a .prices .now) (l .prices) (l .r) (a .regions) (l .inv .2) e (s .pre .1 .0 .0) in
     (p, (rw e at (l .inv .3), (rw e at (l .inv .4), rw e at (l .inv .5))))
 
@@ -147,11 +116,9 @@ read-regions-spec =
     (tie.spec
     Inv-loop
     μ-loop
-    add-first
     mul-size
     add-size
     loop-holds
-    record-of-requires
     mul-read-region
     add-read-region
     read-region-requires

@@ -1,0 +1,52 @@
+-- The tests of an interval's records in number order: what an acceptance says, and what is accepted. Assumes nothing.
+use mathlib.Core.Path.{_≡_, refl}
+use mathlib.Core.Bool.{true}
+use mathlib.Core.List.{List}
+use Prim.Native.Nat.{ℕ, zero, suc, _+_, _*_, _<_, _≤_}
+use native.Mathlib.Nat.{suc-mul}
+use native.Mathlib.Omega.{arith}
+use borrow.Author.Tests.{eq-eqb, eqb-true}
+use lib.Dec.{eqb}
+use lib.ListN.{length}
+use Rattle.laws.proofs.Tests.{by-test, never}
+use Rattle.pricing.specs.Verdict.{accepted}
+use Rattle.book.specs.Record.{isAccepted}
+use Rattle.interval_records.specs.Layout.{headLength, regionLength}
+use Rattle.interval_records.specs.Record.{dueVerdict, headVerdict, recordPlace, regionAt}
+use Rattle.interval_records.specs.InOrder.{nextVerdict, orderedVerdict}
+use Rattle.interval_records.proofs.Wholes.{Due, due-accepted, accepted-due, all-accepted, accepted-all}
+use Rattle.interval_records.proofs.Heads.{Ordered, then-both, head-is, is-head}
+
+-- one region's record
+module _ (M : ℕ) (bytes : List ℕ) (first k : ℕ) where
+  pub next-is : isAccepted (nextVerdict M bytes first k) ≡ true → Due 17 M bytes (recordPlace M first k) × (regionAt M bytes first k ≡ k)
+  unfolding nextVerdict
+  next-is e =
+      let b = then-both (dueVerdict 17 M bytes (recordPlace M first k)) (eqb (regionAt M bytes first k) k) 45 refl e in
+      (accepted-due 17 M (omega arith) bytes (recordPlace M first k) (b .0), eqb-true _ _ (b .1))
+
+  is-next : Due 17 M bytes (recordPlace M first k) → regionAt M bytes first k ≡ k → nextVerdict M bytes first k ≡ accepted
+  unfolding nextVerdict
+  is-next d e = rw (due-accepted 17 M (omega arith) bytes (recordPlace M first k) d, eq-eqb _ _ e)
+
+module _ (R M : ℕ) (bytes : List ℕ) (at : ℕ) where
+  pub ordered-is : isAccepted (orderedVerdict R M bytes at) ≡ true → Ordered R M bytes at
+  unfolding orderedVerdict
+  ordered-is e =
+      by-test (isAccepted (headVerdict R M bytes at))
+      (λ a. let h = head-is R M bytes at a in
+      let r : (k : ℕ) → k < R → Due 17 M bytes (recordPlace M (at + headLength) k) × (regionAt M bytes (at + headLength) k ≡ k) = λ k l. next-is M bytes (at + headLength) k (accepted-all R 0 (nextVerdict M bytes (at + headLength)) (rw a at e) k (omega arith) (omega arith)) in
+      record { head = h .0; total = h .1; due = λ k l. r k l .0; region = λ k l. r k l .1 })
+      (λ a. never (isAccepted (headVerdict R M bytes at)) (rw a at e) a)
+
+  pub is-ordered : Ordered R M bytes at → orderedVerdict R M bytes at ≡ accepted
+  unfolding orderedVerdict
+  is-ordered o =
+      rw (is-head R M bytes at (o .head) (o .total))
+      (all-accepted R 0 (nextVerdict M bytes (at + headLength)) (λ k a l. is-next M bytes (at + headLength) k (o .due k (omega arith)) (o .region k (omega arith))))
+
+-- ---- the room of records that stand one behind the other, in whatever order their regions are
+module _ (R M : ℕ) (bytes : List ℕ) (first : ℕ) (start : first ≤ length bytes) (due : (k : ℕ) → k < R → Due 17 M bytes (recordPlace M first k)) where
+  pub dues-room : (n : ℕ) → n ≤ R → first + n * regionLength M ≤ length bytes
+  dues-room zero h = omega arith
+  dues-room (suc n) h = omega (arith, due n h .room, suc-mul n (regionLength M))

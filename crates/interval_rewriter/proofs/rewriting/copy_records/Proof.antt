@@ -1,0 +1,136 @@
+-- `interval_rewriter::rewriting::copy_records` meets its contract. What is still to go is the same at every turn. Assumes nothing.
+use mathlib.Core.Path.{_≡_, refl, _∙_}
+use Prim.Native.Nat.{ℕ, _<_, _≤_, _-_, _+_, _*_}
+use native.Mathlib.Omega.{arith}
+use lib.ListN.{length}
+use lib.Seq.{sets}
+use Rattle.laws.specs.Lists.{joined}
+use Rattle.interval_records.specs.Layout.{headLength, regionLength}
+use Rattle.interval_records.proofs.Verdicts.{room-at}
+use Rattle.interval_writer.proofs.Writes.{regions-none, regions-step, regions-done}
+use Rattle.interval_rewriter.specs.Rewriting.{recordBytes}
+use Rattle.interval_rewriter.proofs.AnyOrder.{Given, given-is}
+use Rattle.interval_rewriter.proofs.Rewrites.{records-room, record-room, record-length}
+use Rattle.interval_rewriter.proofs.rewriting.copy_records.Statement.{statement}
+use Rattle.interval_rewriter.proofs.rewriting.copy_records.Tie as tie
+
+abbrev Inv-loop : tie.InvT-loop
+Inv-loop regions markets bytes at buffer₀ first size r₀ buffer r =
+    let f = recordBytes regions markets bytes (at + headLength) in
+    (r ≤ regions) × (length buffer ≡ length buffer₀)
+    × (sets buffer (12 + r * regionLength markets) (joined (regions - r) r f) ≡ sets buffer₀ headLength (joined regions 0 f))
+
+abbrev μ-loop : tie.MeasureT-loop
+μ-loop regions markets bytes at buffer₀ first size r₀ buffer r = regions - r
+
+given : (s : tie.Start Inv-loop μ-loop) → let a = s .args in Given (a .regions) (a .markets) (a .bytes .now) (a .at)
+given s = let a = s .args in given-is (a .regions) (a .markets) (a .bytes .now) (a .at) (s .pre .0 .1)
+
+-- the room of all records
+room : (s : tie.Start Inv-loop μ-loop) → let a = s .args in a .at + headLength + a .regions * regionLength (a .markets) ≤ length (a .bytes .now)
+room s = let a = s .args in records-room (a .regions) (a .markets) (a .bytes .now) (a .at) (given s)
+
+add-first : tie.Need-add-first Inv-loop μ-loop
+add-first c = omega (arith, room (c .before .before))
+
+mul-size : tie.Need-mul-size Inv-loop μ-loop
+mul-size c = omega (arith, c .before .before .pre .0 .0)
+
+add-size : tie.Need-add-size Inv-loop μ-loop
+add-size c = omega (arith, c .before .before .pre .0 .0)
+
+loop-holds : tie.Need-loop-holds Inv-loop μ-loop
+loop-holds c = (omega arith, refl, regions-none _ (regionLength (c .before .before .args .markets)) 12 _ _)
+
+record-of-requires : tie.Need-record-of-requires Inv-loop μ-loop
+record-of-requires c κs = let s = c .before .before .before .before in (s .pre .0 .0, room s)
+
+-- the record that was found is there, and so is its place in the buffer
+module _ (c : tie.After-record-of Inv-loop μ-loop) where
+  abbrev start : tie.Start Inv-loop μ-loop
+  start = c .before .before .before .before .before
+
+  abbrev turn : ℕ
+  turn = c .before .before .loop .r
+
+  here : let a = start .args in
+      a .at + headLength + c .record-of .result * regionLength (a .markets) + regionLength (a .markets) ≤ length (a .bytes .now)
+  here =
+      let a = start .args in
+      let h : turn < a .regions = omega arith in
+      record-room (a .regions) (a .markets) (a .bytes .now) (a .at) (given start) turn h (c .record-of .result) (c .record-of .ensures)
+
+  there : 12 + turn * regionLength (start .args .markets) + regionLength (start .args .markets) ≤ length (c .before .before .loop .buffer)
+  there =
+      let h : turn < start .args .regions = omega arith in
+      let k = room-at 12 (regionLength (start .args .markets)) (start .args .regions) turn _ h (start .pre .1) in
+      omega (arith, k, c .before .before .loop .inv .1)
+
+mul-copy : tie.Need-mul-copy Inv-loop μ-loop
+mul-copy c = omega (arith, here c)
+
+add-copy : tie.Need-add-copy Inv-loop μ-loop
+add-copy c = omega (arith, here c)
+
+mul-copy-2 : tie.Need-mul-copy-2 Inv-loop μ-loop
+mul-copy-2 c = omega (arith, there (c .before))
+
+add-copy-2 : tie.Need-add-copy-2 Inv-loop μ-loop
+add-copy-2 c = omega (arith, there (c .before))
+
+copy-requires : tie.Need-copy-requires Inv-loop μ-loop
+copy-requires c κs = (here (c .before), there (c .before))
+
+add-r : tie.Need-add-r Inv-loop μ-loop
+add-r c = omega arith
+
+loop-less : tie.Need-loop-less Inv-loop μ-loop
+loop-less c = omega arith
+
+loop-again : tie.Need-loop-again Inv-loop μ-loop
+loop-again c =
+    let p = c .before .before in
+    let k = p .before .before in
+    let q = k .before .before .loop in
+    let s = k .before .before .before .before .before in
+    let a = s .args in
+    let f = recordBytes (a .regions) (a .markets) (a .bytes .now) (a .at + headLength) in
+    let size = regionLength (a .markets) in
+    let h : q .r < a .regions = omega arith in
+    let n = p .copy .last .1 .1 .1 .0 in
+    let w : n ≡ sets (q .buffer) (12 + q .r * size) (f (q .r)) = rw (← k .record-of .ensures) (p .copy .ensures) in
+    let g : length (f (q .r)) ≡ size = record-length (a .regions) (a .markets) (a .bytes .now) (a .at) (given s) (q .r) h in (
+      omega arith,
+      p .copy .kept .1 .1 .1 .0 ∙ q .inv .1,
+      rw w (regions-step f size 12 (q .buffer) _ (a .regions) (q .r) h g (q .inv .2)),
+    )
+
+same-length : tie.Need-same-length Inv-loop μ-loop
+same-length c = c .before .loop .inv .1
+
+returns : tie.Need-returns Inv-loop μ-loop
+returns c =
+    let l = c .before .loop in
+    regions-done _ (regionLength (c .before .before .before .before .args .markets)) 12 (l .buffer) _ _ _ (l .r) (omega arith) (l .inv .2)
+
+pub copy-records-spec : {M : Type 1} → statement M
+copy-records-spec =
+    tie.close
+    (tie.spec
+    Inv-loop
+    μ-loop
+    add-first
+    mul-size
+    add-size
+    loop-holds
+    record-of-requires
+    mul-copy
+    add-copy
+    mul-copy-2
+    add-copy-2
+    copy-requires
+    add-r
+    loop-less
+    loop-again
+    same-length
+    returns)

@@ -1,0 +1,54 @@
+-- `interval_rewriter::rewriting::rewrite_verdict` meets its contract: one law for each way out. Assumes nothing.
+use mathlib.Core.Path.{_≡_, sym, _∙_}
+use mathlib.Core.Bool.{true}
+use borrow.Author.Tests.{not-true, not-false}
+use Rattle.book.specs.Validity.{valid}
+use Rattle.interval_records.specs.Layout.{lengthFor}
+use Rattle.interval_rewriter.proofs.Rewrites.{rewrite-10, rewrite-23, rewrite-rest}
+use borrow.Author.Needs.{needs}
+use Rattle.interval_rewriter.proofs.rewriting.rewrite_verdict.Statement.{statement}
+use Rattle.interval_rewriter.proofs.rewriting.rewrite_verdict.Tie as tie
+
+-- a book that rule 10 accepts
+good : (c : tie.Else1) → valid (c .before .before .before .args .book) ≡ true
+good c = sym (c .before .valid .ensures) ∙ not-false _ (c .if1 .left)
+
+valid-requires : tie.Need-valid-requires
+valid-requires c κs = search needs
+
+returns : tie.Need-returns
+returns c = rewrite-10 _ _ _ _ (sym (c .before .valid .ensures) ∙ not-true _ (c .if1 .taken))
+
+interval-length-requires : tie.Need-interval-length-requires
+interval-length-requires c κs = search needs
+
+returns-2 : tie.Need-returns-2
+returns-2 c =
+    let n = c .before in
+    let v = n .before in
+    let a = v .before .before .before .args in
+    let size : n .interval-length .result ≡ lengthFor (a .book) = n .interval-length .ensures .0 in
+    rewrite-23 (a .book) (a .bytes .now) (a .at) (a .room) (good v) (rw (← size) (c .if2 .taken))
+
+records-verdict-requires : tie.Need-records-verdict-requires
+records-verdict-requires c κs = search needs
+
+returns-3 : tie.Need-returns-3
+returns-3 c =
+    let n = c .before .before in
+    let v = n .before in
+    let a = v .before .before .before .args in
+    let size : n .interval-length .result ≡ lengthFor (a .book) = n .interval-length .ensures .0 in
+    c .records-verdict .ensures
+    ∙ rewrite-rest (a .book) (a .bytes .now) (a .at) (a .room) (good v) (rw (← size) (c .before .if2 .left))
+
+pub rewrite-verdict-spec : {M : Type 1} → statement M
+rewrite-verdict-spec =
+    tie.close
+    (tie.spec
+    valid-requires
+    returns
+    interval-length-requires
+    returns-2
+    records-verdict-requires
+    returns-3)
