@@ -8,7 +8,8 @@
     saved = book.store()            # bytes; Book.load(saved) goes on from here, after a restart too
 
 Intervals that a site's logger hands over as records (request 2026-01 of document 02) are entered by
-`for interval in book.intervals(records): book.enter(*interval, schedule)`.
+`for interval in book.intervals(records): book.enter(*interval, schedule)`. Their regions stand in number order; records
+of the earlier form, in any order, are brought to it once by `book.rewrite_intervals(records)` (request 2026-08).
 
 A test load that anyone can remake (request 2026-07 of document 02) is drawn from a 32-bit seed, each interval from the
 seed that came with the one before: `seed, interval = book.synthetic(seed, book.entries, 0)`.
@@ -77,6 +78,7 @@ MEANINGS = {
     42: "a record of a region from R up or given before",
     43: "a price asked about is outside its market's entry range",
     44: "a threshold that is no multiple of 10,000 cents",
+    45: "a record that isn't the next region's",
 }
 
 # "15 to 17 give the first place in the lent slice"; beside any other refusal the place is 0 and says nothing.
@@ -147,6 +149,13 @@ class Found(NamedTuple):
     next: int
 
 
+class Rewritten(NamedTuple):
+    """An interval's records in number order, and the place after those that they were taken from."""
+
+    records: bytes
+    next: int
+
+
 class Drawn(NamedTuple):
     """The seed of the next interval of a test load, and this one's interval."""
 
@@ -199,6 +208,10 @@ class _Found(ctypes.Structure):
     _fields_ = [("number", c_uint32), ("next", c_uint64), ("entry", c_uint32), ("day_kind", c_uint32)]
 
 
+class _Rewritten(ctypes.Structure):
+    _fields_ = [("number", c_uint32), ("next", c_uint64)]
+
+
 class _Drawn(ctypes.Structure):
     _fields_ = [("number", c_uint32), ("seed", c_uint32), ("entry", c_uint32), ("day_kind", c_uint32)]
 
@@ -212,8 +225,8 @@ class _Rows(ctypes.Structure):
 
 
 _SIZES = {
-    _Settings: 32, _Book: 864, _Kept: 880, _Entered: 888, _Reading: 24, _Stored: 16, _Found: 24, _Drawn: 16, _Left: 8,
-    _Rows: 400,
+    _Settings: 32, _Book: 864, _Kept: 880, _Entered: 888, _Reading: 24, _Stored: 16, _Found: 24, _Rewritten: 16,
+    _Drawn: 16, _Left: 8, _Rows: 400,
 }
 for _layout, _size in _SIZES.items():
     if ctypes.sizeof(_layout) != _size:
@@ -240,6 +253,7 @@ _FUNCTIONS = {
     "load": (_Kept, [*_BYTES, *_SIGNED]),
     "interval_read": (_Found, [_Book, *_BYTES, c_size_t, *_CONTENTS]),
     "interval_write": (_Stored, [_Book, c_uint32, c_uint8, *_CONTENTS, *_BYTES]),
+    "interval_rewrite": (_Rewritten, [_Book, *_BYTES, c_size_t, *_BYTES]),
     "synthetic": (_Drawn, [_Book, c_uint32, c_uint32, c_uint8, *_CONTENTS]),
     "schedule": (_Rows, [c_uint8, c_int32, c_int32, c_uint8, *_SIGNED, *_BYTES]),
     "amount_text": (c_size_t, [c_int64, *_BYTES]),
@@ -397,13 +411,13 @@ class Book:
         return bytes(image)[:answer.length]
 
     def read_interval(self, records: bytes, at: int = 0) -> Found:
-        """The interval at a place of some records, any bytes-like object; what stands behind it is not looked at, and
-        that an entry would take it is not said. Refusals: 40 41 42."""
+        """The interval at a place of some records, any bytes-like object, its regions in number order; what stands
+        behind it is not looked at, and that an entry would take it is not said. Refusals: 40 41 45."""
         return self._read(_bytes(records), _fits(at, c_size_t))
 
     def intervals(self, records: bytes, at: int = 0) -> Iterator[Interval]:
         """The intervals that stand end to end from a place to the records' end, of which it keeps a copy. One that is
-        refused raises when its turn comes, as does a place beyond the end. Refusals: 40 41 42."""
+        refused raises when its turn comes, as does a place beyond the end. Refusals: 40 41 45."""
         return self._each(_bytes(records), _fits(at, c_size_t))
 
     def write_interval(self, number: int, day_kind: int, prices: Sequence[int], marks: Sequence[int],
@@ -411,10 +425,25 @@ class Book:
         """An interval's records, its regions upward; the numbers are written whether or not an entry would take them.
         Refusal: 11."""
         head = (_fits(number, c_uint32), _fits(day_kind, c_uint8))
-        buffer = (c_uint8 * (INTERVAL_HEAD + self.regions * (REGION_HEAD + 4 * (self.services + 1))))()
+        buffer = self._buffer()
         lent = _lent(*_contents(prices, marks, flows, factors), buffer)
         answer = _accepted(_face().guxhamole_interval_write(self._book, *head, *lent))
         return bytes(buffer)[:answer.length]
+
+    def rewrite_interval(self, records: bytes, at: int = 0) -> Rewritten:
+        """The interval at a place of some records, its regions in any order: its records in number order, which read to
+        the same entry, and the place after the one taken. One that stands in that order comes back as it is. Refusals:
+        40 41 42."""
+        return self._rewrite(_bytes(records), _fits(at, c_size_t))
+
+    def rewrite_intervals(self, records: bytes, at: int = 0) -> bytes:
+        """The intervals that stand end to end from a place to the records' end, each rewritten and again end to end.
+        One that is refused raises, as does a place beyond the end. Refusals: 40 41 42."""
+        lent, place, forms = _bytes(records), _fits(at, c_size_t), []
+        while place != len(lent):
+            form, place = self._rewrite(lent, place)
+            forms.append(form)
+        return b"".join(forms)
 
     def synthetic(self, seed: int, number: int, day_kind: int) -> Drawn:
         """An interval of a test load with this number and day kind, drawn from a seed of 32 bits, 0 too, and the seed
@@ -430,6 +459,16 @@ class Book:
         regions = self.regions
         return [(c_int32 * (regions * (self.services + 1)))(), (c_uint8 * regions)(), (c_int32 * regions)(),
                 (c_uint32 * regions)()]
+
+    def _buffer(self):
+        """Room for the records of an interval of this book."""
+        return (c_uint8 * (INTERVAL_HEAD + self.regions * (REGION_HEAD + 4 * (self.services + 1))))()
+
+    def _rewrite(self, records, at: int) -> Rewritten:
+        """The interval at a place of bytes that are the library's to look at, in number order."""
+        buffer = self._buffer()
+        answer = _accepted(_face().guxhamole_interval_rewrite(self._book, *_lent(records), at, *_lent(buffer)))
+        return Rewritten(bytes(buffer), answer.next)
 
     def _read(self, records, at: int) -> Found:
         """The interval at a place of bytes that are the library's to look at."""

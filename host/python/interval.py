@@ -1,5 +1,6 @@
-"""Document 02's interval records (request 2026-01), from its words alone: a reader that goes from record to record, and
-a writer. The tests hold the library to it; it shares no code with guxhamole.py."""
+"""Document 02's interval records (requests 2026-01 and 2026-08), from its words alone: a reader that goes from record
+to record, the reader of the earlier form, a writer and a rewriter. The tests hold the library to it; it shares no code
+with guxhamole.py."""
 
 from struct import Struct
 from typing import NamedTuple, Sequence
@@ -75,23 +76,62 @@ def take(given, place, markets, due):
     return body.unpack_from(left, FRONT.size), place + length
 
 
-def read(book, lengths, given, at):
-    """The interval at a place and the place after it. "One head is followed by R region records, each region once, in
-    any order"; "41: .. a region total in the head, that doesn't belong there. 42: a region from R up or given before."
-    """
-    refuse_book(book)
-    refuse_lengths(book, lengths)
-    markets = book.services + 1
-    (number, day_kind, total), place = take(given, at, markets, HEAD)
+def take_head(book, given, at):
+    """Number, day kind, and the place of the first region record. "41: .. a region total in the head, that doesn't
+    belong there." """
+    (number, day_kind, total), place = take(given, at, book.services + 1, HEAD)
     if total != book.regions:
         raise Refused(41)
+    return number, day_kind, place
+
+
+def interval_of(number, day_kind, rows):
+    """Of region 0's row on: mark, flow, factor and prices."""
+    prices = [price for _, _, _, *prices in rows for price in prices]
+    marks, flows, factors = ([row[field] for row in rows] for field in range(3))
+    return Interval(number, day_kind, prices, marks, flows, factors)
+
+
+def read(book, lengths, given, at):
+    """The interval at a place and the place after it. "Region records now follow their head as 0, 1 and so on"; "45: a
+    region record that isn't the next region; in the reader it takes the place of 42". """
+    refuse_book(book)
+    refuse_lengths(book, lengths)
+    number, day_kind, place = take_head(book, given, at)
+    rows = []
+    while len(rows) < book.regions:
+        (region, *row), place = take(given, place, book.services + 1, REGION)
+        if region != len(rows):
+            raise Refused(45)
+        rows.append(row)
+    return interval_of(number, day_kind, rows), place
+
+
+def read_earlier(book, given, at):
+    """The same of the earlier form, for a sound book. "One head is followed by R region records, each region once, in
+    any order"; "42: a region from R up or given before." """
+    number, day_kind, place = take_head(book, given, at)
     rows = {}
     for _ in range(book.regions):
-        (region, *row), place = take(given, place, markets, REGION)
+        (region, *row), place = take(given, place, book.services + 1, REGION)
         if region >= book.regions or region in rows:
             raise Refused(42)
         rows[region] = row
-    upward = [rows[region] for region in range(book.regions)]
-    prices = [price for _, _, _, *prices in upward for price in prices]
-    marks, flows, factors = ([row[field] for row in upward] for field in range(3))
-    return Interval(number, day_kind, prices, marks, flows, factors), place
+    return interval_of(number, day_kind, [rows[region] for region in range(book.regions)]), place
+
+
+def length(book):
+    """An interval's bytes: a head and R region records of M prices each."""
+    head, region = (FRONT.size + body.size for body in bodies(book.services + 1).values())
+    return head + book.regions * region
+
+
+def rewrite(book, given, at, room):
+    """The bytes that go to a buffer's start, and "the place after the one taken". "Given book and place, a rewriter
+    takes one interval of the earlier form, refusing by 10, 23, then 40 to 42, writes it .. in the fixed order with the
+    same entry": so the book alone tells 23, before any record is looked at. """
+    refuse_book(book)
+    if room < length(book):
+        raise Refused(23)
+    entry, place = read_earlier(book, given, at)
+    return b"".join(records(book, entry)), place

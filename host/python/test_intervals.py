@@ -1,5 +1,6 @@
-"""Interval records (request 2026-01 of document 02): its worked cases on the library and on interval.py, every refusal
-with nothing written, and the ends of the types."""
+"""Interval records (requests 2026-01 and 2026-08 of document 02): the worked cases of reader and writer on the library
+and on interval.py, every refusal with nothing written, and the ends of the types; test_rewriting.py has the rewriter.
+"""
 
 import ctypes
 import mmap
@@ -14,7 +15,7 @@ from arithmetic import Refused
 from guxhamole import Book, Interval, Refusal, Settings
 
 FILL = 7
-MARGIN = 3  # places behind each slice that are not lent
+MARGIN = 3  # places before and behind each slice of a read, and behind a written buffer, that are not lent
 KINDS = (c_int32, c_uint8, c_int32, c_uint32)
 
 B2 = Settings(2, 0, 1, 1, 0, (255, 0, *[255] * 6), 90_000, 60_000, -60_000)
@@ -25,16 +26,27 @@ FIRST = bytes.fromhex("14000000 1100 00 00 00000000 00000000 a0860100")
 SECOND = bytes.fromhex("14000000 1100 01 00 01000000 f82a0000 905f0100")
 UNKNOWN = bytes.fromhex("06000000 6300")
 I = HEAD + FIRST + SECOND
+U = HEAD + SECOND + FIRST
 WILD_BYTES = bytes.fromhex(
     "0c000000 1000 01000000 07 02"
     "14000000 1100 00 09 00000080 ffffffff 00000080"
     "14000000 1100 01 ff ffffff7f 00000000 ffffff7f"
 )
 
-# What a read of these bytes at this place answers on B2: entry and next place, or a refusal.
+
+
+def of_region(region, record=FIRST):
+    """A region's record with another region."""
+    return record[:6] + bytes([region]) + record[7:]
+
+
+# What a read of these bytes at this place answers on B2: entry and next place, or a refusal; and where the earlier form
+# is told otherwise, what it was read to.
 READS = (
     ("upward", I, 0, (ENTRY, 52)),
-    ("downward", HEAD + SECOND + FIRST, 0, (ENTRY, 52)),
+    ("downward", U, 0, 45, (ENTRY, 52)),
+    ("downward behind an interval", I + U, 52, 45, (ENTRY, 104)),
+    ("upward behind a downward one", U + I, 52, (ENTRY, 104)),
     ("no range is tested", I + WILD_BYTES, 52, (WILD, 104)),
     ("the first of two", I + WILD_BYTES, 0, (ENTRY, 52)),
     ("what follows is not looked at", I + b"\xff", 0, (ENTRY, 52)),
@@ -61,14 +73,38 @@ READS = (
     ("a kind is two bytes", HEAD[:5] + b"\1" + HEAD[6:] + FIRST + SECOND, 0, 41),
     ("a length is four bytes", HEAD[:3] + b"\1" + HEAD[4:] + FIRST + SECOND, 0, 40),
     ("a head shorter than it has to be", b"\x0b" + HEAD[1:] + FIRST + SECOND, 0, 40),
+    ("a head of 13 bytes and another total", b"\x0d" + HEAD[1:11] + b"\3\0" + FIRST + SECOND, 0, 40),
+    ("a region of a head's length and another total", HEAD[:4] + b"\x11" + HEAD[5:11] + b"\3" + FIRST + SECOND, 0, 40),
     ("a region where a head is due", FIRST + SECOND, 0, 41),
     ("that of another length", b"\x15" + FIRST[1:] + b"\0" + SECOND, 0, 40),
     ("a head where a region is due", HEAD + I, 0, 41),
     ("that of another length", HEAD + b"\x0d" + HEAD[1:] + b"\0" + FIRST + SECOND, 0, 40),
-    ("region 2", HEAD + FIRST[:6] + b"\2" + FIRST[7:], 0, 42),
-    ("region 2, cut short", HEAD + FIRST[:6] + b"\2" + FIRST[7:-1], 0, 40),
-    ("region 0 twice", HEAD + FIRST + FIRST, 0, 42),
-    ("region 0 twice, more behind", HEAD + FIRST + FIRST + SECOND, 0, 42),
+    ("region 2", HEAD + of_region(2), 0, 45, 42),
+    ("region 2, more behind", HEAD + of_region(2) + FIRST + SECOND, 0, 45, 42),
+    ("region 2, cut short", HEAD + of_region(2)[:-1], 0, 40),
+    ("region 2 but for its kind", HEAD + of_region(2, FIRST[:4] + b"\x12" + FIRST[5:]) + SECOND, 0, 41),
+    ("region 2 after region 0", HEAD + FIRST + of_region(2), 0, 45, 42),
+    ("region 2 after region 0, cut short", HEAD + FIRST + of_region(2)[:-1], 0, 40),
+    ("region 3", HEAD + of_region(3) + SECOND, 0, 45, 42),
+    ("region 255", HEAD + of_region(255) + SECOND, 0, 45, 42),
+    ("region 255 after region 0", HEAD + FIRST + of_region(255), 0, 45, 42),
+    ("region 0 twice", HEAD + FIRST + FIRST, 0, 45, 42),
+    ("region 0 twice, more behind", HEAD + FIRST + FIRST + SECOND, 0, 45, 42),
+    ("region 0 twice, then cut short", HEAD + FIRST + FIRST[:-1], 0, 40),
+    ("region 0 twice but for the second's kind", HEAD + FIRST + FIRST[:4] + b"\x12" + FIRST[5:], 0, 41),
+    ("region 1 twice", HEAD + SECOND + SECOND, 0, 45, 42),
+    ("region 1 twice, more behind", HEAD + SECOND + SECOND + FIRST, 0, 45, 42),
+    ("region 1 alone", HEAD + SECOND, 0, 45, 40),
+    ("region 1, then one cut short", U[:51], 0, 45, 40),
+    ("region 1, then an unknown kind", HEAD + SECOND + UNKNOWN, 0, 45, 41),
+    ("region 1, then a head", HEAD + SECOND + HEAD + FIRST, 0, 45, 41),
+    ("region 1, then one that is longer", HEAD + SECOND + b"\x15" + FIRST[1:] + b"\0", 0, 45, 40),
+    ("region 1, cut short", HEAD + SECOND[:-1], 0, 40),
+    ("region 1 but for its length", HEAD + b"\x15" + SECOND[1:] + FIRST, 0, 40),
+    ("region 1 but for its kind", HEAD + SECOND[:4] + b"\x12" + SECOND[5:] + FIRST, 0, 41),
+    ("downward after another total", HEAD[:11] + b"\3" + SECOND + FIRST, 0, 41),
+    ("downward after a total of 1", HEAD[:11] + b"\1" + SECOND + FIRST, 0, 41),
+    ("downward, no range is tested", WILD_BYTES[:12] + WILD_BYTES[32:] + WILD_BYTES[12:32], 0, 45, (WILD, 52)),
     ("two prices a region", HEAD + (b"\x18" + FIRST[1:] + bytes(4)) + (b"\x18" + SECOND[1:] + bytes(4)), 0, 40),
     ("the second region cut short", I[:51], 0, 40),
 )
@@ -79,24 +115,31 @@ def right_lengths(book):
     return [book.regions * (book.services + 1)] + [book.regions] * 3
 
 
+def tripled(records):
+    """Records three times end to end, and those in the middle, which are lent."""
+    three = guxhamole._bytes(records * 3)
+    return three, (c_uint8 * len(records)).from_buffer(three, len(records))
+
+
 def library_read(book, lengths, records, at):
     """The raw function's number, next place, entry, day kind, and then all that was lent, with the margins. The same
     records stand before and behind those lent, so that a reader that strays finds some."""
-    slices = [(kind * (length + MARGIN))(*[FILL] * (length + MARGIN)) for kind, length in zip(KINDS, lengths)]
-    lent = [argument for pair in zip(slices, lengths) for argument in pair]
-    three = guxhamole._bytes(records * 3)
-    given = (c_uint8 * len(records)).from_buffer(three, len(records))
-    answer = guxhamole._face().guxhamole_interval_read(book, *guxhamole._lent(given), at, *lent)
-    return [answer.number, answer.next, answer.entry, answer.day_kind, *map(list, slices), bytes(three)]
+    around = [(kind * (length + 2 * MARGIN))(*[FILL] * (length + 2 * MARGIN)) for kind, length in zip(KINDS, lengths)]
+    slices = [(kind * length).from_buffer(places, MARGIN * ctypes.sizeof(kind))
+              for kind, length, places in zip(KINDS, lengths, around)]
+    three, given = tripled(records)
+    answer = guxhamole._face().guxhamole_interval_read(book, *guxhamole._lent(given), at, *guxhamole._lent(*slices))
+    return [answer.number, answer.next, answer.entry, answer.day_kind, *map(list, around), bytes(three)]
 
 
 def due_read(book, lengths, records, at):
     """The same by interval.py; "Refused calls write nothing .. and answer zeros"."""
+    margin = [FILL] * MARGIN
     try:
         found, after = interval.read(book, lengths, records, at)
     except Refused as refused:
-        return [refused.number, 0, 0, 0, *([FILL] * (length + MARGIN) for length in lengths), records * 3]
-    return [0, after, *found[:2], *(numbers + [FILL] * MARGIN for numbers in found[2:]), records * 3]
+        return [refused.number, 0, 0, 0, *([FILL] * (length + 2 * MARGIN) for length in lengths), records * 3]
+    return [0, after, *found[:2], *(margin + numbers + margin for numbers in found[2:]), records * 3]
 
 
 def library_write(book, entry, room):
@@ -133,13 +176,19 @@ class Cases(unittest.TestCase):
 
     def test_reads(self):
         lengths = right_lengths(self.book)
-        for name, records, at, answer in READS:
+        for name, records, at, answer, *_ in READS:
             with self.subTest(name):
                 self.assertEqual(number_of(self.book.read_interval, records, at), answer)
                 self.assertEqual(number_of(interval.read, self.raw, lengths, records, at), answer)
                 of_library = library_read(self.raw, lengths, records, at)
                 self.assertEqual(of_library, due_read(self.raw, lengths, records, at))
                 self.assertEqual(of_library[0], answer if isinstance(answer, int) else 0)
+
+    def test_reads_of_the_earlier_form(self):
+        """What the request before took and refused, which the rewriter's tests go by."""
+        for name, records, at, answer, *earlier in READS:
+            with self.subTest(name):
+                self.assertEqual(number_of(interval.read_earlier, self.raw, records, at), (earlier or [answer])[0])
 
     def test_reads_of_other_slices(self):
         """11 before any record, 10 before 11."""
@@ -149,12 +198,15 @@ class Cases(unittest.TestCase):
             self.assertEqual(of_library[0], number)
 
     def test_every_length(self):
+        """11 also where the records are out of order."""
         for place in range(4):
             for change in (-1, 1, 1000):
                 lengths = right_lengths(self.book)
                 lengths[place] += change
-                self.assertEqual(library_read(self.raw, lengths, I, 0)[0], 11)
-                self.assertEqual(library_read(self.raw, lengths, I, 0), due_read(self.raw, lengths, I, 0))
+                for records in (I, U):
+                    of_library = library_read(self.raw, lengths, records, 0)
+                    self.assertEqual(of_library, due_read(self.raw, lengths, records, 0))
+                    self.assertEqual(of_library[0], 11)
 
     def test_writes(self):
         """Into exactly the room, into more, and into less."""
@@ -220,6 +272,8 @@ class Together(unittest.TestCase):
         self.assertEqual(number_of(next, found), 40)
         self.assertEqual(list(found), [])
         self.assertEqual(number_of(next, self.book.intervals(I, 53)), 40)
+        found = self.book.intervals(I + U + I)
+        self.assertEqual([number_of(next, found), number_of(next, found), *found], [ENTRY, 45])
 
     def test_entered_while_read(self):
         later = self.book.write_interval(*ENTRY._replace(number=1))

@@ -1,23 +1,24 @@
-"""Random interval records, from a fixed seed, on books of all sizes: every answer of the library's reader and writer,
-and all that was lent to them, held to interval.py's."""
+"""Random interval records, from a fixed seed, on books of all sizes: every answer of the library's reader, writer and
+rewriter, and all that was lent to them, held to interval.py's. What is read is rewritten too."""
 
 import random
 import unittest
-from collections import Counter
-from itertools import accumulate
+from itertools import accumulate, zip_longest
 
 import interval
 from arithmetic import Refused
 from book import LARGEST_SUM
 from guxhamole import Book, Refusal, Settings
+from held import Held, any_interval
 from interval import Interval
 from ledger import NONE
 from starts import by_opening
-from test_intervals import due_read, due_write, library_read, library_write, number_of, right_lengths
+from test_intervals import due_write, library_write, number_of, right_lengths
 from test_random import outcome, random_entry
 
 SEED = 1
 CALLS = 20_000
+MOST_ROOM = 4_000  # bytes; a damaged book may have far longer intervals than any that is sound
 # Lengths, kinds and totals that are right somewhere, and those beside them.
 TELLING = (0, 1, 2, 5, 6, 11, 12, 13, 16, 17, 18, 20, 255)
 # A book's fields at their ends and beyond.
@@ -29,7 +30,16 @@ ENDS = {
     "nexts": (0, 1, 2, 3), "sums": (0, 1, LARGEST_SUM, LARGEST_SUM + 1, -LARGEST_SUM, -LARGEST_SUM - 1),
     "marks": (0, 1, 2, 255),
 }
-MET = [f"read {number}" for number in (0, 10, 11, 40, 41, 42)] + [f"write {number}" for number in (0, 10, 11, 23)]
+# How often each must be met: an answer, what the rewriter says to one of the reader's, and the rest.
+MET = {
+    "read 0": 4_000, "read 10": 1_000, "read 11": 300, "read 40": 2_000, "read 41": 1_000, "read 45": 2_000,
+    "write 0": 4_000, "write 10": 300, "write 11": 300, "write 23": 1_500,
+    "rewrite 0": 4_000, "rewrite 10": 1_000, "rewrite 23": 2_000, "rewrite 40": 2_000, "rewrite 41": 1_000,
+    "rewrite 42": 300, "10 before 23": 200, "23 before a record": 1_000,
+    "0, rewritten 0": 1_000, "40, rewritten 40": 1_500, "41, rewritten 41": 800, "45, rewritten 0": 700,
+    "45, rewritten 40": 150, "45, rewritten 41": 50, "45, rewritten 42": 300,
+    "two of one entry": 500, "all rewritten": 300, "entered": 600,
+}
 
 
 def random_settings(dice):
@@ -43,15 +53,8 @@ def random_interval(dice, settings, number):
     """One that an entry takes, or, as often, any numbers of their types."""
     if dice.random() < 0.5:
         return Interval(*random_entry(dice, settings, number)[:6])
-    regions = range(settings.regions)
-    return Interval(
-        dice.choice((number, dice.getrandbits(32))),
-        dice.choice((0, 1, dice.getrandbits(8))),
-        [dice.getrandbits(32) - 2**31 for _ in range(settings.regions * (settings.services + 1))],
-        [dice.getrandbits(8) for _ in regions],
-        [dice.getrandbits(32) - 2**31 for _ in regions],
-        [dice.getrandbits(32) for _ in regions],
-    )
+    drawn = any_interval(dice, settings.regions, settings.services)
+    return drawn._replace(number=dice.choice((number, drawn.number)), day_kind=dice.choice((0, 1, drawn.day_kind)))
 
 
 def with_byte(dice, regions, piece):
@@ -143,35 +146,48 @@ def due_intervals(book, records, at):
         yield found
 
 
+def due_forms(book, records, at):
+    forms = []
+    while at != len(records):
+        form, at = interval.rewrite(book, records, at, interval.length(book))
+        forms.append(form)
+    return b"".join(forms)
+
+
 class Calls:
     """One book after the other, with one to three intervals end to end; what was met is counted."""
 
     def __init__(self, test):
         self.test = test
         self.dice = random.Random(SEED)
-        self.met = Counter()
+        self.held = Held(test)
+        self.met = self.held.met
         self.calls = 0
 
-    def compare(self, name, of_library, due, *about):
-        self.calls += 1
-        self.test.assertEqual(of_library, due, about)
-        self.met[f"{name} {of_library[0]}"] += 1
-
     def open(self):
+        """One in three intervals is one that stands before it once more, in an order of its own."""
         self.settings = random_settings(self.dice)
         self.book, self.ledger = by_opening(self.settings)
-        self.feed = [random_interval(self.dice, self.settings, number) for number in range(self.dice.randint(1, 3))]
-        self.pieces = []
-        for each in self.feed:
-            head, *regions = interval.records(self.settings, each)
+        self.feed, self.pieces, self.upward = [], [], []
+        for number in range(self.dice.randint(1, 3)):
+            fresh = random_interval(self.dice, self.settings, number)
+            self.feed.append(self.dice.choice(self.feed) if self.feed and self.dice.random() < 0.3 else fresh)
+            head, *regions = upward = list(interval.records(self.settings, self.feed[-1]))
             if self.dice.random() < 0.5:
                 self.dice.shuffle(regions)
+            self.upward.append([head, *regions] == upward)
             self.pieces += [head, *regions]
 
     def enter_all(self):
-        """What was read, in whatever order its regions stood, is entered as what was written."""
+        """What was rewritten, in whatever order its regions stood, is read and entered as what was written; as they
+        stand, the intervals are read up to the first that is out of order."""
+        records = b"".join(self.pieces)
+        out = [number for number, upward in enumerate(self.upward) if not upward]
+        due = [*self.feed[:out[0]], 45] if out else self.feed
+        self.test.assertEqual(collected(self.book.intervals(records)), due)
         schedule = [self.dice.randint(-90_000, 90_000) for _ in range(2 * len(self.feed[0].prices))]
-        for found, given in zip(self.book.intervals(b"".join(self.pieces)), self.feed):
+        rewritten = self.book.rewrite_intervals(records)
+        for found, given in zip_longest(self.book.intervals(rewritten), self.feed):
             self.test.assertEqual(found, given)
             answer = outcome(self.book.enter, *found, schedule)
             self.test.assertEqual(answer, outcome(self.ledger.enter, *given, schedule), given)
@@ -198,27 +214,42 @@ class Calls:
             place = dice.randrange(4)
             lengths[place] = max(0, lengths[place] + dice.choice((-100, -1, 1, 2)))
         records, at = b"".join(pieces), random_place(dice, self.settings.regions, pieces)
-        answer = library_read(book, lengths, records, at)
-        self.compare("read", answer, due_read(book, lengths, records, at), self.settings, lengths, at)
+        number = self.held.read(book, records, at, lengths)[0]
+        self.calls += 1
+        self.rewrite(book, records, at, number)
         if lengths == right_lengths(book):
             found = number_of(Book(book, self.book._ring).read_interval, records, at)
-            self.test.assertEqual(found, answer[0] or number_of(interval.read, book, lengths, records, at))
-            if answer[0] == 0:
-                self.trip(book, found, records, at)
+            self.test.assertEqual(found, number or number_of(interval.read, book, lengths, records, at))
+            if number == 0:
+                self.trip(book, found.interval, records[at:found.next])
 
-    def trip(self, book, found, records, at):
-        """Written, what was read is the bytes that were read exactly where its regions stand upward; and it is read
-        again."""
-        room = found.next - at
-        answer = library_write(book, found.interval, room)
-        self.compare("write", answer, due_write(book, found.interval, room), self.settings, found)
-        written, step = answer[2][:room], (room - 12) // book.regions
-        upward = list(records[at + 12 + 6:found.next:step]) == list(range(book.regions))  # byte 6 of each is its region
-        self.test.assertEqual(written == records[at:found.next], upward)
-        again = library_read(book, right_lengths(book), written, 0)
-        self.compare("read", again, due_read(book, right_lengths(book), written, 0), self.settings, found)
-        self.test.assertEqual(again[1:4], [room, *found.interval[:2]])
-        self.met["upward" if upward else "in another order"] += 1
+    def rewrite(self, book, records, at, read):
+        """Whatever was read, by this number, is rewritten: by the method, and into room that suffices, or not."""
+        exact, lent = interval.length(book), Book(book, self.book._ring)
+        due = number_of(interval.rewrite, book, records, at, exact)
+        self.test.assertEqual(number_of(lent.rewrite_interval, records, at), due)
+        room = exact + self.dice.choice((0, 0, 0, self.dice.randint(1, 9), 400, -1, -self.dice.randint(1, exact)))
+        number, form = self.held.rewrite(book, records, at, min(room, MOST_ROOM))
+        self.met["10 before 23"] += number == 10 and room < exact
+        self.met["23 before a record"] += number == 23 and isinstance(due, int)
+        if read not in (10, 11) and number != 23:
+            self.held.together(book, records, at, read, number, form)
+        if (read, number) == (45, 0):
+            self.trip(book, lent.read_interval(form).interval, form)
+
+    def trip(self, book, found, taken):
+        """Written, what was read is the bytes that it was read from; and it is read again."""
+        answer = self.compare_write(book, found, len(taken))
+        self.test.assertEqual(answer[2][:len(taken)], taken)
+        again = self.held.read(book, taken, 0)
+        self.test.assertEqual(again[:4], [0, len(taken), *found[:2]])
+
+    def compare_write(self, book, entry, room):
+        self.calls += 1
+        answer = library_write(book, entry, room)
+        self.test.assertEqual(answer, due_write(book, entry, room), (self.settings, entry, room))
+        self.met[f"write {answer[0]}"] += 1
+        return answer
 
     def write(self):
         """Into room that suffices, or not; one slice in some calls of another length."""
@@ -230,8 +261,7 @@ class Calls:
             entry = entry._replace(**{name: self.dice.choice((numbers[1:], numbers + [0], []))})
         exact = len(b"".join(interval.records(self.settings, self.feed[0])))
         room = exact + self.dice.choice((0, 0, self.dice.randint(1, 9), -1, -exact, -self.dice.randrange(exact)))
-        answer = library_write(book, entry, room)
-        self.compare("write", answer, due_write(book, entry, room), self.settings, entry, room)
+        self.compare_write(book, entry, room)
 
     def go_through(self):
         pieces = self.damaged_pieces()
@@ -239,6 +269,11 @@ class Calls:
         found = collected(self.book.intervals(records, at))
         self.test.assertEqual(found, collected(due_intervals(self.book._book, records, at)), (self.settings, at))
         self.met[f"{len(found)} gone through"] += 1
+        forms = number_of(self.book.rewrite_intervals, records, at)
+        self.test.assertEqual(forms, number_of(due_forms, self.book._book, records, at), (self.settings, at))
+        if isinstance(forms, bytes):
+            self.test.assertEqual(self.book.rewrite_intervals(forms), forms)
+            self.met["all rewritten"] += 1
 
     def play(self):
         self.open()
@@ -255,11 +290,11 @@ class RandomIntervals(unittest.TestCase):
         calls = Calls(self)
         while calls.calls < CALLS:
             calls.play()
-        for what in ("entered", "upward", "in another order", *MET):
-            self.assertGreaterEqual(calls.met[what], 100, what)
-        self.assertEqual({what for what in calls.met if what[:4] in ("read", "writ")}, set(MET))
         met = ", ".join(f"{what} {calls.met[what]}" for what in sorted(calls.met))
         print(f"random intervals: {calls.calls}, met: {met}")
+        for what, least in MET.items():
+            self.assertGreaterEqual(calls.met[what], least, what)
+        self.assertEqual({what for what in calls.met if what not in MET and not what.endswith("gone through")}, set())
 
 
 if __name__ == "__main__":
