@@ -2,7 +2,7 @@
 //   w          with these parents books are opened from here on (255 where none is given)
 //   o c        open a book: R, S, W, H, first position, threshold, cap, floor; close it
 //   n a        new records, and bytes after those that are there, a number a byte
-//   t          take the interval at a place (-1 is the last of all places) and rewrite it into a buffer of so many bytes, which holds sevens
+//   t          take the interval at a place (-1 is the last of all places) and rewrite it into so many bytes, which hold sevens
 //   =          a heading to print; lines that begin with anything else are for the reader
 use book::record::Book;
 use book::record::closed;

@@ -50,7 +50,7 @@ recordPlace markets first k = first + k * regionLength markets
 abbrev pub regionAt : ℕ → List ℕ → ℕ → ℕ → ℕ
 regionAt markets bytes first k = numberAt bytes (recordPlace markets first k + 6) 1
 
--- the first refusal of n records from record k up, "per record 40, 41, 42"
+-- the first refusal of n records from record k up: "per record 40, 41", then 42 of the earlier form and 45 in the reader
 unfoldable pub firstRefusal : ℕ → ℕ → (ℕ → Verdict) → Verdict
 firstRefusal zero k verdict = accepted
 firstRefusal (suc n) k verdict = pick (isAccepted (verdict k)) (firstRefusal n (suc k) verdict) (verdict k)

@@ -14,7 +14,7 @@ use Rattle.laws.proofs.Bytes.{sets-front}
 use Rattle.laws.proofs.Fields.{part-then}
 use Rattle.laws.proofs.Joined.{take-run, length-joined, sum-same}
 use Rattle.laws.proofs.Lists.{run-same}
-use Rattle.laws.proofs.Tests.{by-test, never, true-is}
+use Rattle.laws.proofs.Tests.{by-test, true-is}
 use Rattle.pricing.specs.Verdict.{accepted, refused}
 use Rattle.book.specs.declared.record.Book.{Book}
 use Rattle.book.specs.declared.record.Refusal.{Refusal}

@@ -65,7 +65,7 @@ fn regions_verdict(regions: u8, services: u8, bytes: &[u8], first: usize) -> Ans
 }
 
 // 40 to 42 of an interval's records, its regions in any order.
-pub fn records_verdict(regions: u8, services: u8, bytes: &[u8], at: usize) -> Answer
+pub(crate) fn records_verdict(regions: u8, services: u8, bytes: &[u8], at: usize) -> Answer
     ensures { λ r. ⌜ verdict r ≡ recordsVerdict regions (marketsOf services) (now (bytes .entry)) at ⌝ }
 {
     let answer = head_verdict(regions, services, bytes, at);
@@ -76,7 +76,13 @@ pub fn records_verdict(regions: u8, services: u8, bytes: &[u8], at: usize) -> An
 }
 
 // Which of the records from `first` on is a region's, or R.
-pub fn record_of(regions: usize, markets: usize, bytes: &[u8], first: usize, region: usize) -> usize
+pub(crate) fn record_of(
+    regions: usize,
+    markets: usize,
+    bytes: &[u8],
+    first: usize,
+    region: usize,
+) -> usize
     requires { ⌜ (markets ≤ 256) × (first + regions * regionLength markets ≤ length (now bytes)) ⌝ }
     ensures { λ r. ⌜ r ≡ recordOf regions markets (now (bytes .entry)) first region ⌝ }
 {

@@ -49,7 +49,7 @@ intervalAt regions markets bytes at which = record {
 }
 
 -- ---- the call
--- "10, 11 .. come first; per record 40, 41", and of "45 .. in the reader it takes the place of 42"
+-- "10, 11 .. come first; per record 40, 41", then 45, which "in the reader .. takes the place of 42"
 unfoldable pub readVerdict : Book → Interval → List ℕ → ℕ → Verdict
 readVerdict b lent bytes at =
     pick (not (valid b)) (refused 10)
