@@ -16,8 +16,8 @@
    host, it
    - begins with an accepted guxhamole_open, or with an accepted guxhamole_load of such an image;
    - hands each call the book that the call before handed back, accepted or refused; guxhamole_report, guxhamole_store,
-     guxhamole_intervals_left, the two calls of interval records and guxhamole_synthetic hand none back and change none, so that
-     the next call gets the same book again;
+     guxhamole_intervals_left, the three calls of interval records and guxhamole_synthetic hand none back and change none, so
+     that the next call gets the same book again;
    - lends the ring that the opening or load was lent, at its full length, and lets these calls alone write to it and to the
      book (both may be copied and moved between calls: what they hold counts, not where they stand);
    - restarts by a guxhamole_store into a long enough buffer and a guxhamole_load, from exactly the `length` bytes that were
@@ -91,9 +91,10 @@ enum guxhamole_refusal {
     GUXHAMOLE_TEXT = 33,          /* the buffer is too short for the text; shown by a length of 0 alone */
     GUXHAMOLE_RECORD_BROKEN = 40, /* a record is missing or cut short, or its length is below 6 or not its known kind's */
     GUXHAMOLE_RECORD_KIND = 41,   /* a record's kind, or the head's region total, doesn't belong there */
-    GUXHAMOLE_RECORD_REGION = 42, /* a record's region is none of the book's, or was given before */
+    GUXHAMOLE_RECORD_REGION = 42, /* a record's region is none of the book's, or was given before; the rewriter's alone */
     GUXHAMOLE_PLANNED_PRICE = 43, /* the price of further intervals is outside its market's range of entry prices */
-    GUXHAMOLE_HUNDREDS = 44       /* the threshold is within its range, but no multiple of 10,000: no whole hundreds of dollars */
+    GUXHAMOLE_HUNDREDS = 44,      /* the threshold is within its range, but no multiple of 10,000: no whole hundreds of dollars */
+    GUXHAMOLE_RECORD_ORDER = 45   /* a region's record isn't the next region's */
 };
 
 /* What a book is opened with; money in cents. */
@@ -164,6 +165,11 @@ typedef struct guxhamole_found {
     uint32_t day_kind; /* 0..255: as the record has it */
 } guxhamole_found;
 
+typedef struct guxhamole_rewritten {
+    uint32_t number;
+    uint64_t next; /* the place after the interval that was taken, in the records that it was taken from */
+} guxhamole_rewritten;
+
 typedef struct guxhamole_drawn {
     uint32_t number;
     uint32_t seed;     /* the last s: what the next interval is drawn from */
@@ -231,23 +237,34 @@ guxhamole_left guxhamole_intervals_left(guxhamole_book book, const int32_t *ring
    with M = S + 1 markets a region the records are
      head    length 12 (4 bytes), kind 16 (2), the entry's number (4), its day kind (1), R (1)
      region  length 16 + 4 x M (4 bytes), kind 17 (2), the region (1), its mark (1), flow (4), factor (4) and M prices (4 each)
-   one head and R regions after it, each region once, GUXHAMOLE_INTERVAL(R, S) bytes in all. Intervals stand end to end.
+   one head and after it regions 0, 1 and so on to R - 1, GUXHAMOLE_INTERVAL(R, S) bytes in all. Intervals stand end to end. In the
+   earlier form the regions follow in any order, each once: guxhamole_interval_rewrite takes it, and nothing else does.
 
-   guxhamole_interval_read reads the interval at place `at` of the records, its regions in any order, into the slices that an
-   entry takes, and answers the place after it; what stands there is not looked at. Any `at` may be asked for, and one at the end
-   of the records or beyond is 40. No range is tested: whatever the fields hold is handed on, for the entry to refuse.
+   guxhamole_interval_read reads the interval at place `at` of the records into the slices that an entry takes, and answers the
+   place after it; what stands there is not looked at. Any `at` may be asked for, and one at the end of the records or beyond is
+   40. No range is tested: whatever the fields hold is handed on, for the entry to refuse.
      book                    whose R and S it has; which entry is its next doesn't matter
      prices                  R x M, at region x M + market
      marks, flows, factors   R each
-   Refusals: 10, 11, of the head 40, 41, then region after region 40, 41, 42. Refused: the four slices as they were, and zeros.
-   The four slices must overlap neither the records nor one another.
+   Refusals: 10, 11, of the head 40, 41, then region after region 40, 41, 45. Refused: the four slices as they were, and zeros.
+   45 is any other region than the next: one out of its turn, one given before, one from R up. Where the records are of the earlier
+   form, rewrite them. The four slices must overlap neither the records nor one another.
 
-   guxhamole_interval_write writes an interval's records upward, from region 0 on, as the first bytes of the buffer, and answers
-   their length; the bytes after them stay. The slices are an entry's, as above; no range is tested.
+   guxhamole_interval_write writes an interval's records as the first bytes of the buffer, and answers their length; the bytes after
+   them stay. The slices are an entry's, as above; no range is tested.
    Refusals: 10, 11, 23. Refused: the buffer as it was. The buffer must overlap none of the slices.
 
-   Proved: what was written reads back as the same number, day kind and slices; and an interval that reads, its regions in upward
-   order, is written to the same bytes. */
+   guxhamole_interval_rewrite takes the interval at place `at` of the records, its regions in any order, and writes it as the first
+   bytes of the buffer: the head as it stands, then region 0's record, region 1's and so on, each byte for byte as it stands. The
+   bytes after them stay. It answers the place after the interval that it took, at + GUXHAMOLE_INTERVAL(R, S). Any `at` may be asked
+   for, and no range is tested. An interval that guxhamole_interval_read takes is written as it is, so that a file may be rewritten
+   that has both forms, or again.
+   Refusals: 10, 23, of the head 40, 41, then record after record 40, 41, 42. 23 is told from the book and buffer_length alone. Refused:
+   the buffer as it was, and next is 0. The buffer must not overlap the records.
+
+   Proved: what was written reads back as the same number, day kind and slices, and what reads is written to the same bytes, so that
+   an entry has one form: two places that read to the same one hold the same bytes. What was rewritten reads to the entry that it was
+   in its earlier order, and what reads already is rewritten to itself. */
 guxhamole_found guxhamole_interval_read(guxhamole_book book,
                                         const uint8_t *records, size_t records_length, size_t at,
                                         int32_t *prices, size_t prices_length,
@@ -260,6 +277,8 @@ guxhamole_stored guxhamole_interval_write(guxhamole_book book, uint32_t entry, u
                                           const int32_t *flows, size_t flows_length,
                                           const uint32_t *factors, size_t factors_length,
                                           uint8_t *buffer, size_t buffer_length);
+guxhamole_rewritten guxhamole_interval_rewrite(guxhamole_book book, const uint8_t *records, size_t records_length, size_t at,
+                                               uint8_t *buffer, size_t buffer_length);
 
 /* Draws a synthetic interval, a test load that anyone can remake from its seed, into the slices that an entry takes. Each draw
    replaces s, at first the seed, by (s x 1,664,525 + 1,013,904,223) mod 2^32, and gives d = s div 65,536. The R x M prices are
@@ -414,6 +433,9 @@ GUXHAMOLE_AT(found, number, 0);
 GUXHAMOLE_AT(found, next, 8);
 GUXHAMOLE_AT(found, entry, 16);
 GUXHAMOLE_AT(found, day_kind, 20);
+GUXHAMOLE_SIZE(rewritten, 16);
+GUXHAMOLE_AT(rewritten, number, 0);
+GUXHAMOLE_AT(rewritten, next, 8);
 GUXHAMOLE_SIZE(drawn, 16);
 GUXHAMOLE_AT(drawn, number, 0);
 GUXHAMOLE_AT(drawn, seed, 4);

@@ -1,4 +1,5 @@
-/* Interval records in plain C, from request 2026-01 alone: a cursor goes from record to record, and a set has the regions met. */
+/* Interval records in plain C, from requests 2026-01 and 2026-08 alone: a cursor goes from record to record; of the earlier form a
+   set has the regions met. */
 #include "independent_interval.h"
 
 #include <string.h>
@@ -48,9 +49,31 @@ static uint32_t read_head(struct cursor *cursor, unsigned regions, unsigned mark
     return taken(cursor, 1) == regions ? 0 : 41;
 }
 
-/* `met` has a bit for each region that was given. */
-static uint32_t read_region(struct cursor *cursor, unsigned regions, unsigned markets, unsigned *met,
-                            struct independent_interval *interval)
+/* The rest of a region's record, after its region. */
+static void read_numbers(struct cursor *cursor, uint32_t region, unsigned markets, struct independent_interval *interval)
+{
+    interval->marks[region] = (uint8_t)taken(cursor, 1);
+    interval->flows[region] = (int32_t)taken(cursor, 4);
+    interval->factors[region] = taken(cursor, 4);
+    for (unsigned market = 0; market < markets; market++)
+        interval->prices[region * markets + market] = (int32_t)taken(cursor, 4);
+}
+
+/* The record of region `due`, and of no other. */
+static uint32_t read_region(struct cursor *cursor, unsigned due, unsigned markets, struct independent_interval *interval)
+{
+    uint32_t refusal = begin_record(cursor, REGION_KIND, markets);
+    if (refusal != 0)
+        return refusal;
+    if (taken(cursor, 1) != due)
+        return 45;
+    read_numbers(cursor, due, markets, interval);
+    return 0;
+}
+
+/* The record of any region that wasn't met; `met` has a bit for each that was. */
+static uint32_t read_unmet(struct cursor *cursor, unsigned regions, unsigned markets, unsigned *met,
+                           struct independent_interval *interval)
 {
     uint32_t refusal = begin_record(cursor, REGION_KIND, markets);
     if (refusal != 0)
@@ -59,25 +82,35 @@ static uint32_t read_region(struct cursor *cursor, unsigned regions, unsigned ma
     if (region >= regions || (*met >> region & 1) != 0)
         return 42;
     *met |= 1u << region;
-    interval->marks[region] = (uint8_t)taken(cursor, 1);
-    interval->flows[region] = (int32_t)taken(cursor, 4);
-    interval->factors[region] = taken(cursor, 4);
-    for (unsigned market = 0; market < markets; market++)
-        interval->prices[region * markets + market] = (int32_t)taken(cursor, 4);
+    read_numbers(cursor, region, markets, interval);
     return 0;
 }
 
 uint32_t independent_interval_read(unsigned regions, unsigned services, const uint8_t *records, size_t length, size_t at,
                                    struct independent_interval *interval, size_t *after)
 {
-    unsigned markets = services + 1, met = 0;
     memset(interval, 0, sizeof *interval);
     if (at > length)
         return 40;
     struct cursor cursor = {records + at, length - at};
-    uint32_t refusal = read_head(&cursor, regions, markets, interval);
+    uint32_t refusal = read_head(&cursor, regions, services + 1, interval);
+    for (unsigned region = 0; region < regions && refusal == 0; region++)
+        refusal = read_region(&cursor, region, services + 1, interval);
+    *after = length - cursor.left;
+    return refusal;
+}
+
+uint32_t independent_interval_earlier(unsigned regions, unsigned services, const uint8_t *records, size_t length, size_t at,
+                                      struct independent_interval *interval, size_t *after)
+{
+    unsigned met = 0;
+    memset(interval, 0, sizeof *interval);
+    if (at > length)
+        return 40;
+    struct cursor cursor = {records + at, length - at};
+    uint32_t refusal = read_head(&cursor, regions, services + 1, interval);
     for (unsigned i = 0; i < regions && refusal == 0; i++)
-        refusal = read_region(&cursor, regions, markets, &met, interval);
+        refusal = read_unmet(&cursor, regions, services + 1, &met, interval);
     *after = length - cursor.left;
     return refusal;
 }
@@ -110,4 +143,47 @@ size_t independent_interval_write(unsigned regions, unsigned services, const str
             at = put(records, at, 4, (uint32_t)interval->prices[region * markets + market]);
     }
     return at;
+}
+
+/* Where each region's record begins; of a region not met so far it is null. */
+static uint32_t note_records(struct cursor *cursor, unsigned regions, size_t size, const uint8_t **begins)
+{
+    for (unsigned i = 0; i < regions; i++) {
+        const uint8_t *begin = cursor->at;
+        size_t left = cursor->left;
+        uint32_t refusal = begin_record(cursor, REGION_KIND, (unsigned)(size - 16) / 4);
+        if (refusal != 0)
+            return refusal;
+        uint32_t region = taken(cursor, 1);
+        if (region >= regions || begins[region] != NULL)
+            return 42;
+        begins[region] = begin;
+        cursor->at = begin + size;
+        cursor->left = left - size;
+    }
+    return 0;
+}
+
+/* The records' bytes are moved: none is made anew from its numbers. */
+uint32_t independent_interval_rewrite(unsigned regions, unsigned services, const uint8_t *records, size_t length, size_t at,
+                                      uint8_t *buffer, size_t room, size_t *after)
+{
+    const uint8_t *begins[8] = {NULL};
+    size_t size = 16 + 4 * ((size_t)services + 1);
+    struct independent_interval head;
+    if (room < 12 + regions * size)
+        return 23;
+    if (at > length)
+        return 40;
+    struct cursor cursor = {records + at, length - at};
+    uint32_t refusal = read_head(&cursor, regions, services + 1, &head);
+    if (refusal == 0)
+        refusal = note_records(&cursor, regions, size, begins);
+    if (refusal != 0)
+        return refusal;
+    memcpy(buffer, records + at, 12);
+    for (unsigned region = 0; region < regions; region++)
+        memcpy(buffer + 12 + region * size, begins[region], size);
+    *after = length - cursor.left;
+    return 0;
 }

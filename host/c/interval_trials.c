@@ -4,17 +4,33 @@
 
 #include "make.h"
 
+#include <stdio.h>
+#include <stdlib.h>
 #include <string.h>
 
-static size_t interval_length(const guxhamole_book *book)
+size_t interval_length(const guxhamole_book *book)
 {
     return GUXHAMOLE_INTERVAL(book->regions, book->services);
 }
 
-/* The place of a record of the interval: of the head, or of a region's. */
-static size_t record_place(const struct trial *trial, size_t record)
+size_t record_place(const struct trial *trial, size_t record)
 {
     return record == 0 ? trial->at : trial->at + 12 + (record - 1) * (16 + 4 * (trial->book.services + (size_t)1));
+}
+
+guxhamole_book book_of(unsigned regions, unsigned services)
+{
+    static int32_t ring[88];
+    guxhamole_settings settings = {(uint8_t)regions, (uint8_t)services, 1, 1, 0, {255, 255, 255, 255, 255, 255, 255, 255}, 90000, 60000,
+                                   -60000};
+    for (unsigned region = 1; region < regions; region++)
+        settings.parents[region] = (uint8_t)(region - 1);
+    guxhamole_kept kept = guxhamole_open(settings, ring, GUXHAMOLE_RING(regions, services, 1));
+    if (kept.number != 0) {
+        printf("a book was refused by %u\n", kept.number);
+        exit(1);
+    }
+    return kept.book;
 }
 
 /* A number of any length in bits. */
@@ -30,7 +46,7 @@ static int32_t any_signed(void)
     return below(2) ? size : -size - 1;
 }
 
-static struct independent_interval any_interval(const guxhamole_book *book)
+struct independent_interval any_interval(const guxhamole_book *book)
 {
     struct independent_interval interval;
     memset(&interval, 0, sizeof interval);
@@ -46,15 +62,24 @@ static struct independent_interval any_interval(const guxhamole_book *book)
     return interval;
 }
 
-/* The regions in upward order or, unless `upward`, in any. */
-static void any_order(unsigned regions, int upward, unsigned *order)
+void put_interval(struct trial *trial, const unsigned *order)
 {
-    for (unsigned i = 0; i < regions; i++) {
-        size_t other = upward ? i : below(i + 1);
-        order[i] = i;
-        order[i] = order[other];
-        order[other] = i;
-    }
+    independent_interval_write(trial->book.regions, trial->book.services, &trial->interval, order, trial->records + trial->at);
+}
+
+void any_order(unsigned regions, enum form form, unsigned *order)
+{
+    int upward;
+    do {
+        upward = 1;
+        for (unsigned i = 0; i < regions; i++) {
+            size_t other = form == UPWARD ? i : below(i + 1);
+            order[i] = i;
+            order[i] = order[other];
+            order[other] = i;
+            upward &= other == i;
+        }
+    } while (upward && form != UPWARD && regions > 1);
 }
 
 void any_trial(struct trial *trial)
@@ -62,15 +87,15 @@ void any_trial(struct trial *trial)
     unsigned order[8];
     memset(trial, 0, sizeof *trial);
     trial->book = any_book();
-    trial->upward = below(2) == 0 || trial->book.regions == 1;
+    trial->form = below(3) != 0 || trial->book.regions == 1 ? UPWARD : SHUFFLED;
     trial->interval = any_interval(&trial->book);
     trial->lent = right_lengths(&trial->book);
     trial->at = below(2) ? 0 : below(50);
     for (size_t i = 0; i < TRIAL_BYTES; i++)
         trial->records[i] = (uint8_t)next();
-    any_order(trial->book.regions, trial->upward, order);
-    size_t length = independent_interval_write(trial->book.regions, trial->book.services, &trial->interval, order,
-                                               trial->records + trial->at);
+    any_order(trial->book.regions, trial->form, order);
+    put_interval(trial, order);
+    size_t length = interval_length(&trial->book);
     trial->length = trial->at + length + (below(2) ? 0 : below(50));
     trial->room = below(3) == 0 ? below(length + 1) : below(2) ? length : length + below(20);
 }
@@ -127,7 +152,7 @@ static void move_place(struct trial *trial)
 void damage_records(struct trial *trial)
 {
     size_t end = trial->at + interval_length(&trial->book), any = trial->at + below(interval_length(&trial->book));
-    trial->upward = 0;
+    trial->form = DAMAGED;
     switch (below(9)) {
     case 0:
         trial->length = any;

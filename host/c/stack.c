@@ -24,7 +24,7 @@ static int32_t numbers[PRICES + REGIONS + SCHEDULE], month[168 * HALVES];
 static uint32_t factors[REGIONS], room[REGIONS];
 static uint8_t marks[REGIONS], image[LONGEST], calls[38 + ENTRY_RECORD + 14 + 6], answers[14 + ENTRY_ANSWER + 34 + 14];
 static size_t image_length, calls_length;
-static uint8_t kinds[28], records[GUXHAMOLE_INTERVAL(REGIONS, SERVICES)], read_marks[REGIONS];
+static uint8_t kinds[28], records[GUXHAMOLE_INTERVAL(REGIONS, SERVICES)], later[sizeof records], read_marks[REGIONS];
 static guxhamole_settings settings;
 static guxhamole_book book;
 static volatile uint64_t told; /* so that no call is left out */
@@ -67,6 +67,8 @@ static void use_read(void)
                                    REGIONS).number;
 }
 
+static void use_rewrite(void) { told = guxhamole_interval_rewrite(book, records, sizeof records, 0, later, sizeof later).number; }
+
 static void use_synthetic(void)
 {
     told = guxhamole_synthetic(book, 2026, 0, 0, table, PRICES, read_marks, REGIONS, numbers, REGIONS, room, REGIONS).number;
@@ -86,6 +88,7 @@ struct use {
 };
 
 static struct use enter = {"enter", use_enter, 0}, load = {"load", use_load, 0}, read_records = {"interval read", use_read, 0};
+static struct use rewrite = {"interval rewrite", use_rewrite, 0};
 
 struct run {
     void (*call)(void);
@@ -182,12 +185,22 @@ static void measure_entries(int chain)
     expect(GUXHAMOLE_PRICE, &enter);
 }
 
-/* What was written is read; then its last region is given twice. */
+/* What was written is read and rewritten; so is it in downward order, but not read; then the last region is given twice. */
 static void measure_reading(void)
 {
+    const size_t region = 16 + 4 * MARKETS;
     expect(0, &read_records);
-    records[sizeof records - (16 + 4 * MARKETS) + 6] = 0;
-    expect(GUXHAMOLE_RECORD_REGION, &read_records);
+    expect(0, &rewrite);
+    for (size_t i = 0; i < REGIONS; i++)
+        memcpy(records + 12 + i * region, later + 12 + (REGIONS - 1 - i) * region, region);
+    expect(GUXHAMOLE_RECORD_ORDER, &read_records);
+    expect(0, &rewrite);
+    records[sizeof records - region + 6] = REGIONS - 1;
+    expect(GUXHAMOLE_RECORD_REGION, &rewrite);
+    memcpy(records, later, sizeof records);
+    records[sizeof records - region + 6] = 0;
+    expect(GUXHAMOLE_RECORD_ORDER, &read_records);
+    expect(GUXHAMOLE_RECORD_REGION, &rewrite);
 }
 
 static void put(int width, uint64_t number)
@@ -243,6 +256,7 @@ int main(void)
     }
     measure_reading();
     within &= print(&read_records, GUXHAMOLE_STACK);
+    within &= print(&rewrite, GUXHAMOLE_STACK);
     put_price(image, RING - 1, -1);
     expect(GUXHAMOLE_PRICE, &load);
     within &= print(&load, GUXHAMOLE_STACK);

@@ -133,6 +133,7 @@ static uint32_t refusals_of(guxhamole_book book, int32_t *ring, size_t places)
     guxhamole_found found = guxhamole_interval_read(book, image, sizeof image, 0, table, 88, marks, 8, flows, 8, factors, 8);
     if (found.number != number ||
         guxhamole_interval_write(book, 0, 0, zeros, 88, marks, 8, zeros, 8, factors, 8, image, sizeof image).number != number ||
+        guxhamole_interval_rewrite(book, marks, 8, 0, image, sizeof image).number != number ||
         guxhamole_synthetic(book, 1, 0, 0, table, 88, marks, 8, flows, 8, factors, 8).number != number)
         return 0;
     return guxhamole_store(book, ring, places, image, sizeof image).number == number ? number : 0;
