@@ -8,7 +8,9 @@
 #include <errno.h>
 #include <fcntl.h>
 #include <stdio.h>
+#include <stdlib.h>
 #include <string.h>
+#include <sys/stat.h>
 #include <unistd.h>
 
 /* The most that one write is lent. The kill test lowers it, so that there is a moment within a file. */
@@ -29,7 +31,7 @@ int files_named(struct box_files *files, const char *image)
         snprintf(files->folder, BOX_PATH, ".");
     else
         snprintf(files->folder, BOX_PATH, "%.*s", (int)(slash - image) + 1, image);
-    files->image_loads = 0;
+    files->image_loads = files->new_stands = 0;
     return 1;
 }
 
@@ -43,22 +45,68 @@ static ssize_t read_some(int file, uint8_t *bytes, size_t room)
     return count;
 }
 
+/* Fills the room, or as much of it as the file's rest has; answers 0 where it cannot be read. */
+static int fill(int file, uint8_t *bytes, size_t room, size_t *length)
+{
+    ssize_t count = 1;
+    for (*length = 0; count > 0 && *length < room; *length += count > 0 ? (size_t)count : 0)
+        count = read_some(file, bytes + *length, room - *length);
+    return count >= 0;
+}
+
+static void close_kept(int file)
+{
+    int why = errno;
+    close(file);
+    errno = why;
+}
+
 long file_read(const char *path, uint8_t *bytes, size_t room)
 {
     int file = open(path, O_RDONLY);
     if (file < 0)
         return errno == ENOENT ? -1 : -2;
-    size_t length = 0;
-    ssize_t count = 1;
-    while (count > 0 && length < room) {
-        count = read_some(file, bytes + length, room - length);
-        if (count > 0)
-            length += (size_t)count;
-    }
-    int why = errno;
-    close(file);
-    errno = why;
-    return count < 0 ? -2 : (long)length;
+    size_t length;
+    int good = fill(file, bytes, room, &length);
+    close_kept(file);
+    return good ? (long)length : -2;
+}
+
+/* The file's rest in memory of its own, or null. */
+static uint8_t *read_rest(int file, size_t *length)
+{
+    uint8_t *bytes = NULL;
+    size_t room = 0, count = 0;
+    *length = 0;
+    do {
+        room = 2 * room + (1 << 16);
+        uint8_t *more = (uint8_t *)realloc(bytes, room);
+        if (more == NULL || !fill(file, more + *length, room - *length, &count)) {
+            int why = errno;
+            free(more == NULL ? bytes : more);
+            errno = why;
+            return NULL;
+        }
+        bytes = more;
+        *length += count;
+    } while (*length == room);
+    return bytes;
+}
+
+uint8_t *file_whole(const char *path, size_t *length)
+{
+    int file = open(path, O_RDONLY);
+    if (file < 0)
+        return NULL;
+    uint8_t *bytes = read_rest(file, length);
+    close_kept(file);
+    return bytes;
+}
+
+int same_file(const char *one, const char *other)
+{
+    struct stat of_one, of_other;
+    return stat(one, &of_one) == 0 && stat(other, &of_other) == 0 && of_one.st_dev == of_other.st_dev && of_one.st_ino == of_other.st_ino;
 }
 
 static int write_all(int file, const uint8_t *bytes, size_t length)
@@ -95,12 +143,13 @@ static int closed(int file, int good)
     return good;
 }
 
-static int write_new(const struct box_files *files, const uint8_t *image, size_t length)
+static int write_new(struct box_files *files, const uint8_t *image, size_t length)
 {
     box_step("before create");
     int file = open(files->new_image, O_WRONLY | O_CREAT | O_TRUNC, 0644);
     if (file < 0)
         return 0;
+    files->new_stands = 1;
     box_step("after create");
     return closed(file, write_all(file, image, length) && sync_file(file, "before file sync", "after file sync"));
 }
@@ -130,5 +179,13 @@ int files_save(struct box_files *files, const uint8_t *image, size_t length)
     if (!renamed(files->new_image, files->image, "before rename", "after rename"))
         return 0;
     files->image_loads = 1;
+    files->new_stands = 0;
     return sync_folder(files);
+}
+
+void files_clear(struct box_files *files)
+{
+    if (files->new_stands)
+        unlink(files->new_image);
+    files->new_stands = 0;
 }

@@ -1,4 +1,4 @@
-/* The files of a box: its image, saved so that at every moment a whole one stands on the disk.
+/* The files of a box: its image, saved so that at every moment a whole one stands on the disk, and files of records.
 
    A save goes, with IMAGE the name that the box was given:
      1. the image is written to IMAGE.new, and IMAGE.new is synced;
@@ -23,6 +23,7 @@ enum { BOX_PATH = 4096 };
 struct box_files {
     char image[BOX_PATH], old_image[BOX_PATH], new_image[BOX_PATH], folder[BOX_PATH];
     int image_loads; /* IMAGE was loaded or saved by this box: it may be kept as IMAGE.old */
+    int new_stands;  /* IMAGE.new was made by this box, and not renamed */
 };
 
 /* The names of the files; answers 0 where they are too long. */
@@ -32,7 +33,16 @@ int files_named(struct box_files *files, const char *image);
    cannot be read (errno says why). */
 long file_read(const char *path, uint8_t *bytes, size_t room);
 
+/* Reads a file of any length; answers its bytes, to be freed, or null where it cannot be read (errno says why). */
+uint8_t *file_whole(const char *path, size_t *length);
+
+/* Whether both names are of one file that is there. */
+int same_file(const char *one, const char *other);
+
 /* Saves an image; answers 0 where a step failed (errno says why). */
 int files_save(struct box_files *files, const uint8_t *image, size_t length);
+
+/* Removes the IMAGE.new that a failed save left, so that it takes no room on a full disk. */
+void files_clear(struct box_files *files);
 
 #endif
