@@ -1,6 +1,7 @@
 /* The foundry's box, an example to copy: `box IMAGE` keeps one book of the real market, reads lines (box_lines.h) from standard
    input and answers them on standard output. The command that builds it is in host/c/README.md. `box commission ..` plays a test
-   load on a book in memory instead (box_commission.h); an image of that name would have to be given as ./commission.
+   load on a book in memory instead (box_commission.h), and `box rewrite EARLIER LATER` puts the regions of a file of records in number
+   order (box_rewrite.h); an image of that name would have to be given as ./commission or ./rewrite.
 
    Each line is answered by one line that begins at its first column, details indented above it:
      accepted ..                    an interval, threshold or limits; the book with it is saved (box_files.h), safe from a crash
@@ -26,13 +27,15 @@
    box that started on IMAGE.old may be one save behind: its feeder goes on from the `entries taken` that the start says, and sets
    threshold and limits again. A feeder of a file of records goes on after a crash by the same number and the place: an interval has
    INTERVAL bytes (box_market.h), so the next one stands at PLACE + INTERVAL x (entries taken - number of the interval at PLACE).
-   A file that was refused at place P is mended and sent again from there. */
+   A file that was refused at place P is mended and sent again from there; one of the earlier form, refused by 45, is mended by
+   `box rewrite`. */
 #include "box_answers.h"
 #include "box_commission.h"
 #include "box_files.h"
 #include "box_lines.h"
 #include "box_market.h"
 #include "box_refusals.h"
+#include "box_rewrite.h"
 #include "box_step.h"
 
 #include <errno.h>
@@ -308,9 +311,9 @@ int main(int count, char **words)
 {
     static struct box box;
     struct commission commission;
-    int commissioned = count > 1 && strcmp(words[1], "commission") == 0;
-    if (commissioned ? !commission_parsed(count - 2, words + 2, &commission) : count != 2) {
-        fprintf(stderr, "usage: box IMAGE < lines, or box commission SEED DAYS [THRESHOLD]\n");
+    int commissioned = count > 1 && strcmp(words[1], "commission") == 0, rewrites = count > 1 && strcmp(words[1], "rewrite") == 0;
+    if (commissioned ? !commission_parsed(count - 2, words + 2, &commission) : count != (rewrites ? 4 : 2)) {
+        fprintf(stderr, "usage: box IMAGE < lines, box commission SEED DAYS [THRESHOLD] or box rewrite EARLIER LATER\n");
         return NOT_STARTED;
     }
     if (guxhamole_abi() != GUXHAMOLE_ABI) {
@@ -319,5 +322,7 @@ int main(int count, char **words)
     }
     if (commissioned)
         return commission_played(&commission);
+    if (rewrites)
+        return records_rewritten(words[2], words[3]);
     return start(&box, words[1]) ? run(&box) : NOT_STARTED;
 }

@@ -1,7 +1,7 @@
 /* Feeds a box files of records that are damaged, and then mended: `box_damage FOLDER` writes the files to FOLDER, prints the lines
    that bring them to a box with a new book, and writes what it must answer to FOLDER/expected. Each damaged file has three
    intervals, the second of which is cut short or has one byte changed: the box takes the first, says the refusal and the place of
-   the second, and goes on from there with the mended file. */
+   the second, and goes on from there with the mended file. What `box rewrite` must say of the damaged file N.damaged is in N.said. */
 #include "box_refusals.h"
 #include "feed.h"
 
@@ -27,8 +27,8 @@ static const struct damage damages[] = {
     /* the first region, and the last */
     {HEAD + 5, CUT, 40, 0}, {HEAD + 6, CUT, 40, 0}, {HEAD + REGION - 1, CUT, 40, 0}, {HEAD + REGION, CUT, 40, 0},
     {HEAD, 5, 40, 0}, {HEAD, REGION + 1, 40, 0}, {HEAD + 4, 16, 40, 0}, {HEAD + 4, 99, 41, 0}, {HEAD + 5, 17, 41, 0},
-    {HEAD + 6, 1, 42, 0}, {HEAD + 6, REGIONS, 42, 0}, {HEAD + 6, 255, 42, 0},
-    {LAST, REGION - 1, 40, 0}, {LAST + 4, 18, 41, 0}, {LAST + 6, 0, 42, 0}, {LAST + 6, REGIONS, 42, 0}, {INTERVAL - 1, CUT, 40, 0},
+    {HEAD + 6, 1, 45, 0}, {HEAD + 6, REGIONS, 45, 0}, {HEAD + 6, 255, 45, 0},
+    {LAST, REGION - 1, 40, 0}, {LAST + 4, 18, 41, 0}, {LAST + 6, 0, 45, 0}, {LAST + 6, REGIONS, 45, 0}, {INTERVAL - 1, CUT, 40, 0},
     /* whole records that the entry refuses: the number, the day kind, marks, a price, a service's, a factor */
     {6, 255, 13, 0}, {10, 2, 14, 0}, {HEAD + 7, 2, 15, 0}, {LAST + 7, 1, LACKS, 0}, {HEAD + 2 * REGION + 19, 127, 16, 2 * MARKETS},
     {HEAD + REGION + 23, 128, 16, MARKETS + 1}, {HEAD + REGION + 14, 1, 17, 1}};
@@ -92,6 +92,21 @@ static void expect(int number, const struct damage *damage)
     fprintf(expected, "taken records to place %d\n", BYTES);
 }
 
+/* A changed byte gives no other order of the regions: what is refused by 45 is rewritten no more, and refused by 42. What the entry
+   refuses is rewritten, to itself. */
+static void expect_rewriting(int number, const struct damage *damage)
+{
+    char why[REFUSAL_TEXT];
+    FILE *said = opened("said", number);
+    uint32_t earlier = damage->number == GUXHAMOLE_RECORD_ORDER ? (uint32_t)GUXHAMOLE_RECORD_REGION : damage->number;
+    refusal_text(earlier, 0, why);
+    if (earlier < GUXHAMOLE_RECORD_BROKEN)
+        fprintf(said, "rewritten 3 intervals, %d bytes\n", BYTES);
+    else
+        fprintf(said, "%s in records at place %d\n", why, INTERVAL);
+    written(said);
+}
+
 /* Files of zeros: of the longest that a box takes its end may be asked for, of one byte more nothing. */
 static void put_long(void)
 {
@@ -125,6 +140,7 @@ int main(int count, char **words)
     for (size_t i = 0; i < sizeof damages / sizeof *damages; i++) {
         put_damaged((int)i, &damages[i]);
         expect((int)i, &damages[i]);
+        expect_rewriting((int)i, &damages[i]);
     }
     put_long();
     written(expected);

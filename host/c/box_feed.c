@@ -1,10 +1,11 @@
 /* Feeds a box: prints the lines of a day and an hour of the real market. Region 3's schedule is given first. At eight in the
    morning region 3 is suspended for ten minutes; from five in the afternoon the energy of regions 0 and 1 spikes for an hour, and
    region 1's first service for half an hour; the periods end with the day. `box_feed records FOLDER` prints the same day with its
-   intervals in files of records, which it writes to FOLDER, each interval's regions upward; `box_feed shuffled FOLDER` the same in
-   every order. `box_feed short` prints host/c/box.lines, a sample with every kind of line, and `box_feed sample` the bytes of its
-   file of records, host/c/box.records. `box_feed image` prints an image of the market with nothing entered and a threshold of
-   95,000 cents, which no box can be set. */
+   intervals in files of records, which it writes to FOLDER, each interval's regions in number order; `box_feed shuffled FOLDER` the
+   same in the earlier form, in every order, for `box rewrite`. `box_feed short` prints host/c/box.lines, a sample with every kind of
+   line, and `box_feed sample` the bytes of its file of records, host/c/box.records, `box_feed earlier` those of host/c/box.earlier,
+   the same intervals in the earlier form. `box_feed image` prints an image of the market with nothing entered and a threshold of 95,000
+   cents, which no box can be set. */
 #include "feed.h"
 #include "test_books.h"
 
@@ -117,8 +118,9 @@ static void put_day(void)
     put_reports();
 }
 
-/* The sample's file: two intervals that follow those of its lines, the second in another order, and one whose day kind is bad. */
-static void put_sample(void)
+/* The sample's file: two intervals that follow those of its lines, and one whose day kind is bad; in the earlier form the second's
+   regions are in another order. */
+static void put_sample(int earlier)
 {
     int order[REGIONS];
     for (int number = 7; number < 10; number++) {
@@ -126,15 +128,16 @@ static void put_sample(void)
         line.number = (uint32_t)number;
         line.kind = number == 9 ? 7 : 0;
         feed_order((uint32_t)number, order);
-        feed_records(stdout, &line, number == 8 ? order : NULL);
+        feed_records(stdout, &line, earlier && number == 8 ? order : NULL);
     }
 }
 
-/* The file is taken up to its bad interval; not from its second one again, from within an interval or from beyond its end; and its
-   end is reached with nothing taken. */
+/* The file of the earlier form is taken up to its second interval, and the rewritten one from there up to its bad interval; not from
+   its second one again, from within an interval or from beyond its end; and its end is reached with nothing taken. */
 static void put_records(void)
 {
-    static const int places[] = {0, INTERVAL, 2 * INTERVAL + 1, 2 * INTERVAL + 12, 3 * INTERVAL, 3 * INTERVAL + 1};
+    static const int places[] = {INTERVAL, INTERVAL, 2 * INTERVAL + 1, 2 * INTERVAL + 12, 3 * INTERVAL, 3 * INTERVAL + 1};
+    puts("records 0 host/c/box.earlier");
     for (size_t i = 0; i < sizeof places / sizeof *places; i++)
         printf("records %d host/c/box.records\n", places[i]);
     puts("records 0 host/c/no.records\nrecords 0 host/c\nrecords 0\nrecords -1 host/c/box.records");
@@ -220,7 +223,9 @@ int main(int count, char **words)
     if (strcmp(what, "short") == 0)
         put_short();
     else if (strcmp(what, "sample") == 0)
-        put_sample();
+        put_sample(0);
+    else if (strcmp(what, "earlier") == 0)
+        put_sample(1);
     else if (strcmp(what, "image") == 0)
         put_image();
     else

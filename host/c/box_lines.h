@@ -5,7 +5,8 @@
                                                        factors, as guxhamole_enter takes them
      records PLACE PATH                                entries: the intervals that stand end to end in the file PATH (the line's
                                                        rest, blanks in it too) from byte PLACE to its end, as
-                                                       guxhamole_interval_read takes them
+                                                       guxhamole_interval_read takes them, regions in number order; a file
+                                                       of the earlier form is rewritten before (box_rewrite.h)
      schedule REGION MARKET KIND PRICES                48 prices: the market's row of the suspension schedule for that day kind
      report REGION MARKET
      left REGION MARKET PRICE                          in cents: how many more intervals at this price until the sum exceeds the

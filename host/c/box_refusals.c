@@ -32,6 +32,7 @@ static const char *meaning(uint32_t number)
     case GUXHAMOLE_RECORD_REGION: return "a record of an unknown region, or of one given before";
     case GUXHAMOLE_PLANNED_PRICE: return "a price outside its market's entry range";
     case GUXHAMOLE_HUNDREDS: return "a threshold that is no multiple of 10,000 cents";
+    case GUXHAMOLE_RECORD_ORDER: return "a record that isn't the next region's; for a file of the earlier form: box rewrite EARLIER LATER";
     default: return "unknown";
     }
 }

@@ -5,7 +5,7 @@
 #include <stddef.h>
 #include <stdint.h>
 
-enum { REFUSAL_TEXT = 100 };
+enum { REFUSAL_TEXT = 120 };
 
 /* Writes "refused N (meaning)" into `text` of REFUSAL_TEXT bytes, with " at P" where the number has a place. */
 void refusal_text(uint32_t number, uint64_t place, char *text);

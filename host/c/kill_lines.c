@@ -86,43 +86,68 @@ static struct line refused_interval(uint32_t number)
     return line;
 }
 
+/* A file of records as it is to be, and in the earlier form. */
+struct both {
+    FILE *upward, *earlier;
+};
+
+static FILE *opened(const char *folder, int number, const char *name)
+{
+    char path[1000];
+    snprintf(path, sizeof path, "%s/%d.%s", folder, number, name);
+    FILE *file = fopen(path, "wb");
+    if (file == NULL)
+        exit(1);
+    return file;
+}
+
+/* The interval in number order, and in any other. */
+static void put_both(const struct both *files, const struct line *line)
+{
+    int order[REGIONS], upward;
+    do {
+        upward = 1;
+        feed_order((uint32_t)below(1000), order);
+        for (int region = 0; region < REGIONS; region++)
+            upward &= order[region] == region;
+    } while (upward);
+    feed_records(files->upward, line, NULL);
+    feed_records(files->earlier, line, order);
+}
+
 /* What stands in a file behind its good intervals: nothing, an interval that is refused, or one that is cut short. */
-static void end_records(FILE *file, int which, uint32_t number)
+static void end_records(const struct both *files, int which, uint32_t number)
 {
     struct line line = refused_interval(number);
     switch (which % 3) {
     case 0:
         break;
     case 1:
-        feed_records(file, &line, NULL);
+        put_both(files, &line);
         break;
     default:
-        fwrite("\x0c\0\0\0\x10", 1, 5, file);
+        fwrite("\x0c\0\0\0\x10", 1, 5, files->upward);
+        fwrite("\x0c\0\0\0\x10", 1, 5, files->earlier);
     }
 }
 
-/* A file of up to four intervals, in any order of their regions; answers how many. */
+static int files_put;
+
+/* A file of up to four intervals; answers how many. */
 static uint32_t put_file(FILE *out, uint32_t number, uint32_t most, const char *folder)
 {
-    static int files;
-    char path[1000];
-    int order[REGIONS];
+    struct both files = {opened(folder, files_put, "upward"), opened(folder, files_put, "earlier")};
     uint32_t count = (uint32_t)within(2, 4);
     count = count < most ? count : most;
-    snprintf(path, sizeof path, "%s/%d.records", folder, files);
-    FILE *file = fopen(path, "wb");
-    if (file == NULL)
-        exit(1);
     for (uint32_t i = 0; i < count; i++) {
         struct line line = any_interval(number + i);
-        feed_order((uint32_t)below(1000), order);
-        feed_records(file, &line, order);
+        put_both(&files, &line);
         feed_line(out, &line);
     }
-    end_records(file, files++, number + count);
-    if (fclose(file) != 0)
+    end_records(&files, files_put, number + count);
+    if (fclose(files.upward) != 0 || fclose(files.earlier) != 0)
         exit(1);
-    fprintf(out, "records %u %s\n", (unsigned)count * INTERVAL, path);
+    fprintf(out, "records %u %s/%d.records\n", (unsigned)count * INTERVAL, folder, files_put++);
     return count;
 }
 
@@ -182,7 +207,7 @@ static void put_others(FILE *out, uint32_t number)
         feed_line(out, &line);
 }
 
-void kill_lines(FILE *out, int intervals, const char *folder)
+int kill_lines(FILE *out, int intervals, const char *folder)
 {
     uint32_t count = (uint32_t)intervals, number = 0;
     put_schedule(out);
@@ -194,4 +219,5 @@ void kill_lines(FILE *out, int intervals, const char *folder)
         if (number % 2 == 0 && number < count)
             number += put_file(out, number, count - number, folder);
     }
+    return files_put;
 }

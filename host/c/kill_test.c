@@ -1,9 +1,10 @@
 /* Kills a box at seeded moments and starts it on damaged files: `kill_test BOX FOLDER [SEED [MOMENT]]`, with BOX built for it
    (host/c/run) and FOLDER an empty one.
 
-   First the box plays the lines of kill_lines.h unkilled, and every beginning of them: what it answers to each line, and the
-   image and all reports after it; and the same once more with some of the intervals in files of records, which is how the others
-   are fed. Then, moment by moment:
+   First the files of records of kill_lines.h, which come in the earlier form, are rewritten by the box, killed at every step of it
+   (kill_rewrites.h). The box plays the lines unkilled, and every beginning of them: what it answers to each line, and the image and
+   all reports after it; and the same once more with some of the intervals in the rewritten files, which is how the others are fed.
+   Then, moment by moment:
    - killed: the box is ended by SIGKILL at one of its steps, started again on what the files hold, in every third moment ended
      once more, and started again. What it said up to its end is a beginning of what the unkilled box says; it comes back with the
      image and the reports of the lines that it had answered, or of one line more, and its answers from there on and its last
@@ -17,6 +18,7 @@
 
 #include "box_refusals.h"
 #include "independent.h"
+#include "kill_rewrites.h"
 #include "kill_world.h"
 #include "make.h"
 
@@ -183,7 +185,7 @@ static int play(int done, int first, long kill_at)
     const struct outcome *out = run_box(world.image, input.bytes, kill_at, 0);
     if (out->text.length > want.length || memcmp(out->text.bytes, want.bytes, out->text.length) != 0)
         fail("another answer than the unkilled box's");
-    int killed = kill_at != 0 && WIFSIGNALED(out->status) && WTERMSIG(out->status) == SIGKILL;
+    int killed = kill_at != 0 && was_killed(out);
     kills += killed;
     if (!killed && (out->status != 0 || out->text.length != want.length))
         fail("it ended early");
@@ -368,6 +370,7 @@ int main(int count, char **words)
     fail_saves(words[2]);
     check_steps();
     no_files();
+    kill_rewrites_counts();
     printf("%d lines of %d steps, %d kills (%d in a file of records), after %d of them a line more was saved than answered; %d "
            "damaged pairs of files: %d refusals, %d books of another market, %d starts (%d on IMAGE.old), %d times none\n",
            world.count, world.step_count, kills, in_files, saved_unsaid, DAMAGED, refusals, foreign, started, fallen_back, not_started);

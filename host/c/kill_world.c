@@ -4,6 +4,7 @@
 #include "kill_world.h"
 
 #include "kill_lines.h"
+#include "kill_rewrites.h"
 
 #include <errno.h>
 #include <fcntl.h>
@@ -83,7 +84,8 @@ void no_files(void)
     unlink(world.new_image);
 }
 
-static void be_box(const char *image, int output, long kill_at, size_t most)
+/* The words may be fewer: the first null ends them. */
+static void be_box(const char *const *words, int output, long kill_at, size_t most)
 {
     char number[30];
     int input = open(world.input, O_RDONLY);
@@ -95,11 +97,11 @@ static void be_box(const char *image, int output, long kill_at, size_t most)
         setrlimit(RLIMIT_FSIZE, &limit);
     }
     if (input >= 0 && dup2(input, 0) == 0 && dup2(output, 1) == 1)
-        execl(world.box, world.box, image, (char *)NULL);
+        execl(world.box, world.box, words[0], words[1], words[2], (char *)NULL);
     _exit(127);
 }
 
-const struct outcome *run_box(const char *image, const char *input, long kill_at, size_t most)
+static const struct outcome *run_words(const char *const *words, const char *input, long kill_at, size_t most)
 {
     static struct outcome out;
     int ends[2];
@@ -109,7 +111,7 @@ const struct outcome *run_box(const char *image, const char *input, long kill_at
     pid_t child = fork();
     if (child == 0) {
         close(ends[0]);
-        be_box(image, ends[1], kill_at, most);
+        be_box(words, ends[1], kill_at, most);
     }
     close(ends[1]);
     out.text.length = 0;
@@ -124,6 +126,23 @@ const struct outcome *run_box(const char *image, const char *input, long kill_at
     if (child < 0 || waitpid(child, &out.status, 0) != child)
         fail("the box was not run");
     return &out;
+}
+
+const struct outcome *run_box(const char *image, const char *input, long kill_at, size_t most)
+{
+    const char *words[] = {image, NULL, NULL};
+    return run_words(words, input, kill_at, most);
+}
+
+const struct outcome *run_rewrite(const char *earlier, const char *later, long kill_at, size_t most)
+{
+    const char *words[] = {"rewrite", earlier, later};
+    return run_words(words, "", kill_at, most);
+}
+
+int was_killed(const struct outcome *out)
+{
+    return WIFSIGNALED(out->status) && WTERMSIG(out->status) == SIGKILL;
 }
 
 static const char *after_line(const char *at)
@@ -176,7 +195,7 @@ static void make_lines(const char *folder)
     FILE *out = open_memstream(&text, &length);
     if (out == NULL)
         fail("no memory");
-    kill_lines(out, INTERVALS, folder);
+    world.files = kill_lines(out, INTERVALS, folder);
     fclose(out);
     for (const char *at = text; *at != 0 && world.count < LINES_MOST; at += strlen(world.lines[world.count++]))
         world.lines[world.count] = first_line(at);
@@ -263,6 +282,7 @@ void learn(const char *box, const char *folder)
     snprintf(world.input, sizeof world.input, "%s/lines", folder);
     snprintf(world.step_file, sizeof world.step_file, "%s/steps", folder);
     make_lines(folder);
+    kill_rewrites(folder);
     make_questions();
     for (int count = 0; count <= world.count; count++)
         learn_beginning(count);

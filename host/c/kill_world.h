@@ -14,7 +14,8 @@ struct text {
     size_t length;
 };
 
-/* A file's bytes, of length 0 where there is none; a longer file than any image is read to one byte more. */
+/* A file's bytes, of length 0 where there is none; a longer file than any image is read to one byte more. The files of records are
+   shorter. */
 struct image {
     uint8_t bytes[IMAGE_MAX + 1];
     size_t length;
@@ -43,6 +44,7 @@ struct world {
     struct image last_old;               /* IMAGE.old after all lines */
     char *reports[LINES_MOST + 1];       /* of every market, after so many lines */
     char *questions;                     /* the lines that ask for them */
+    int files;                           /* of records */
     int step_count;
     struct step steps[STEPS_MOST];
 };
@@ -76,6 +78,12 @@ void no_files(void);
 /* Runs the box on the image at `image`, fed `input`; killed at its step `kill_at`, or not if 0; its files have at most `most`
    bytes, or any number if 0. */
 const struct outcome *run_box(const char *image, const char *input, long kill_at, size_t most);
+
+/* Runs `box rewrite EARLIER LATER`, likewise. */
+const struct outcome *run_rewrite(const char *earlier, const char *later, long kill_at, size_t most);
+
+/* Whether it was ended by SIGKILL. */
+int was_killed(const struct outcome *out);
 
 /* The lines from `from` on as a box is fed them: those of a file of records by one line. */
 void add_lines(struct text *input, int from);
