@@ -137,6 +137,7 @@ static void one_file(const char *folder, int number)
     if (!image_read(earlier, &form) || !image_read(upward, &want) || form.length != want.length || image_same(&form, &want))
         fail("no file of the earlier form");
     size_t length = want.length, whole = length - length % INTERVAL;
+    unlink(later);
     refuse(earlier);
     if (whole != length)
         refuse_cut(earlier, later, &form, whole);
