@@ -1,4 +1,5 @@
-//! Interval records, as loggers hand them over: one interval read from any place of their bytes, and one written.
+//! Interval records, as loggers hand them over: one interval read from any place of their bytes, one written, and one of the earlier
+//! form, whose regions stand in any order, rewritten to the one that is read.
 
 use crate::{raw, Book, Refusal};
 
@@ -45,8 +46,9 @@ pub struct Found {
 
 /// Interval records; the book says how many regions and markets they have, and stays.
 impl Book {
-    /// Reads the interval whose head stands at a place of the records, its regions in any order: 10, 11, then record by record
-    /// 40, 41, 42. No range is tested, which is the entry's part, and what follows the interval isn't looked at.
+    /// Reads the interval whose head stands at a place of the records, its regions in number order: 10, 11, then record by record
+    /// 40, 41, 45. No range is tested, which is the entry's part, and what follows the interval isn't looked at. So one entry has one
+    /// form: two places that read to the same entry hold the same bytes.
     ///
     /// Written, read back and entered:
     ///
@@ -138,5 +140,51 @@ impl Book {
         let stored = raw::interval_write(*self.raw(), interval, buffer);
         Refusal::unless_accepted(stored.number, 0)?;
         Ok(stored.length as usize)
+    }
+
+    /// Takes the interval of the earlier form, its regions in any order, whose head stands at a place of the records, and writes it from
+    /// the buffer's start on with its regions in number order, each record as it stood: the place after the interval taken. The bytes
+    /// written are [`Book::interval_length`], those after them stay. 10, 23, then record by record 40, 41, 42; no range is tested. An
+    /// interval that reads is rewritten to itself.
+    ///
+    /// Everything that a logger wrote in the earlier form, rewritten end to end:
+    ///
+    /// ```
+    /// use guxhamole::{Book, Interval, IntervalMut, Refusal, Settings};
+    ///
+    /// let parents = [255, 0, 255, 255, 255, 255, 255, 255];
+    /// let settings = Settings { regions: 2, services: 0, window: 1, halves: 1, parents, ..Settings::default() };
+    /// let book = Book::open(settings, &mut [0; 2])?;
+    ///
+    /// // One interval as the writer has it, and the same with its two region records exchanged.
+    /// let prices = [100_000, 90_000];
+    /// let interval = Interval { number: 0, day_kind: 0, prices: &prices, marks: &[0, 0], flows: &[0, 1], factors: &[0, 11_000] };
+    /// let mut fixed = [0; 52];
+    /// book.write_interval(interval, &mut fixed)?;
+    /// let earlier = [&fixed[..], &fixed[..12], &fixed[32..], &fixed[12..32]].concat();
+    ///
+    /// let (mut prices, mut marks, mut flows, mut factors) = ([0; 2], [0; 2], [0; 2], [0; 2]);
+    /// let filled = IntervalMut { prices: &mut prices, marks: &mut marks, flows: &mut flows, factors: &mut factors };
+    /// assert_eq!(book.read_interval(&earlier, 52, filled), Err(Refusal::RecordOrder));
+    ///
+    /// let (mut at, mut later) = (0, Vec::new());
+    /// while at < earlier.len() {
+    ///     let mut buffer = [0; guxhamole::interval_length(2, 0)];
+    ///     at = book.rewrite_interval(&earlier, at, &mut buffer)?;
+    ///     later.extend(buffer);
+    /// }
+    /// assert_eq!(later, [fixed, fixed].concat());
+    /// assert_eq!(book.rewrite_interval(&earlier, 0, &mut [0; 51]), Err(Refusal::Buffer));
+    /// # Ok::<(), Refusal>(())
+    /// ```
+    pub fn rewrite_interval(
+        &self,
+        records: &[u8],
+        at: usize,
+        buffer: &mut [u8],
+    ) -> Result<usize, Refusal> {
+        let rewritten = raw::interval_rewrite(*self.raw(), records, at, buffer);
+        Refusal::unless_accepted(rewritten.number, 0)?;
+        Ok(rewritten.next as usize)
     }
 }

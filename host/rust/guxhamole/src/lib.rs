@@ -3,8 +3,8 @@
 //!
 //! Proved of each function, for all arguments: it ends, reads and writes only what it is lent, keeps no pointer and no state of
 //! its own, and its whole outcome is that of the definitions of document 01, and of document 02 for interval records
-//! ([`Book::read_interval`], [`Book::write_interval`]), for the intervals left ([`Book::intervals_left`]) and for the test load
-//! ([`Book::synthetic`]). A refused call changes nothing.
+//! ([`Book::read_interval`], [`Book::write_interval`], [`Book::rewrite_interval`]), for the intervals left ([`Book::intervals_left`])
+//! and for the test load ([`Book::synthetic`]). A refused call changes nothing.
 //!
 //! # What the host must do
 //!

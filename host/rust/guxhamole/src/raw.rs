@@ -95,6 +95,15 @@ pub struct Found {
     pub day_kind: u32,
 }
 
+/// The answer of an interval's rewriting.
+#[repr(C)]
+#[derive(Clone, Copy, Debug, PartialEq, Eq)]
+#[allow(missing_docs)]
+pub struct Rewritten {
+    pub number: u32,
+    pub next: u64,
+}
+
 /// The answer of a draw.
 #[repr(C)]
 #[derive(Clone, Copy, Debug, PartialEq, Eq)]
@@ -152,6 +161,8 @@ const _: () = {
     assert!(size_of::<Found>() == 24 && offset_of!(Found, number) == 0);
     assert!(offset_of!(Found, next) == 8 && offset_of!(Found, entry) == 16);
     assert!(offset_of!(Found, day_kind) == 20);
+    assert!(size_of::<Rewritten>() == 16 && offset_of!(Rewritten, number) == 0);
+    assert!(offset_of!(Rewritten, next) == 8);
     assert!(size_of::<Drawn>() == 16 && offset_of!(Drawn, number) == 0);
     assert!(offset_of!(Drawn, seed) == 4 && offset_of!(Drawn, entry) == 8);
     assert!(offset_of!(Drawn, day_kind) == 12);
@@ -181,7 +192,9 @@ impl Book {
 }
 
 mod face {
-    use super::{Book, Drawn, Entered, Found, Kept, Left, Reading, Rows, Settings, Stored};
+    use super::{
+        Book, Drawn, Entered, Found, Kept, Left, Reading, Rewritten, Rows, Settings, Stored,
+    };
 
     extern "C" {
         pub fn guxhamole_open(settings: Settings, ring: *mut i32, ring_length: usize) -> Kept;
@@ -249,6 +262,14 @@ mod face {
             buffer: *mut u8,
             buffer_length: usize,
         ) -> Stored;
+        pub fn guxhamole_interval_rewrite(
+            book: Book,
+            records: *const u8,
+            records_length: usize,
+            at: usize,
+            buffer: *mut u8,
+            buffer_length: usize,
+        ) -> Rewritten;
         pub fn guxhamole_synthetic(
             book: Book,
             seed: u32,
@@ -386,7 +407,8 @@ pub fn load(image: &[u8], ring: &mut [i32]) -> Kept {
     unsafe { face::guxhamole_load(image.as_ptr(), image.len(), places, length) }
 }
 
-/// "10, 11 … come first; per record 40, 41, 42." Any place is allowed, beyond the records' end too.
+/// "10, 11 … come first; per record 40, 41", and 45 "in the reader … takes the place of 42". Any place is allowed, beyond the records'
+/// end too.
 pub fn interval_read(
     book: Book,
     records: &[u8],
@@ -432,6 +454,14 @@ pub fn interval_write(book: Book, interval: crate::Interval<'_>, buffer: &mut [u
             buffer.len(),
         )
     }
+}
+
+/// "refusing by 10, 23, then 40 to 42". Any place is allowed, as to a reading.
+pub fn interval_rewrite(book: Book, records: &[u8], at: usize, buffer: &mut [u8]) -> Rewritten {
+    let (bytes, length) = (records.as_ptr(), records.len());
+    let (written, room) = (buffer.as_mut_ptr(), buffer.len());
+    // SAFETY: the slices are as said above.
+    unsafe { face::guxhamole_interval_rewrite(book, bytes, length, at, written, room) }
 }
 
 /// "10, then 11 over the filled slices". The answer's entry and day kind are those given, of any values.

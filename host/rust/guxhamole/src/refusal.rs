@@ -64,13 +64,16 @@ pub enum Refusal {
     Broken,
     /// 41: a record's kind, or the region total of an interval's head, doesn't belong there.
     RecordKind,
-    /// 42: a record is of a region from R up, or of one that was given before.
+    /// 42: a record to be rewritten is of a region from R up, or of one that was given before.
     RecordRegion,
     /// 43: the price asked about is out of its market's range.
     PlannedPrice,
     /// 44: the threshold of an opening or a setting is within its range, but no multiple of 10,000 cents, a hundred dollars. An image may
     /// hold such a one.
     Hundreds,
+    /// 45: a record that is read isn't the next region's. Records of the form before request 2026-08, in which regions stand in any order,
+    /// are rewritten once by [`crate::Book::rewrite_interval`].
+    RecordOrder,
     /// A number that this crate doesn't know: the archive is a later one ([`crate::abi`]).
     Other(u32),
 }
@@ -107,6 +110,7 @@ impl Refusal {
             42 => Refusal::RecordRegion,
             43 => Refusal::PlannedPrice,
             44 => Refusal::Hundreds,
+            45 => Refusal::RecordOrder,
             _ => Refusal::Other(number),
         }
     }
@@ -168,6 +172,7 @@ impl Refusal {
             Refusal::RecordRegion => (42, "a record of a region from R up or given before"),
             Refusal::PlannedPrice => (43, "a price asked about, out of its market's range"),
             Refusal::Hundreds => (44, "a threshold that is no multiple of 10,000 cents"),
+            Refusal::RecordOrder => (45, "a region's record that isn't the next region's"),
             Refusal::Other(number) => (number, "a refusal of a later archive"),
         }
     }
@@ -197,7 +202,7 @@ mod tests {
             assert_eq!(refusal.number(), number);
             let placed = (15..=17).contains(&number);
             assert_eq!(refusal.place(), placed.then_some(7));
-            let known = [10..=27, 30..=33, 40..=44];
+            let known = [10..=27, 30..=33, 40..=45];
             let known = known.iter().any(|numbers| numbers.contains(&number));
             assert_eq!(refusal == Refusal::Other(number), !known);
         }

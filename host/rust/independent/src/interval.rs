@@ -1,18 +1,17 @@
-//! "Interval records from the plant bus", request 2026-01 of document 02, whose words are quoted here: a reader that goes from
-//! record to record, and a writer.
+//! "Interval records from the plant bus", request 2026-01 of document 02, with "Regions in number order", request 2026-08; their words
+//! are quoted here: a reader that goes from record to record, and a writer. The form before 2026-08 is in `earlier`.
 
 use crate::book::Book;
 use crate::rules::*;
-use std::collections::BTreeMap;
 
 /// "Kind 16 heads an interval"
-const HEAD: u16 = 16;
+pub(crate) const HEAD: u16 = 16;
 
 /// "Kind 17 is a region"
-const REGION: u16 = 17;
+pub(crate) const REGION: u16 = 17;
 
 /// An entry, "its schedule aside".
-#[derive(Clone, Debug, PartialEq, Eq)]
+#[derive(Clone, Debug, PartialEq, Eq, Hash)]
 pub struct Interval {
     pub number: u32,
     pub kind: u8,
@@ -39,7 +38,7 @@ fn record(kind: u16, body: &[u8]) -> Vec<u8> {
 }
 
 /// The length that a known kind has, counted on a record of zeros.
-fn known_length(kind: u16, markets: usize) -> Option<usize> {
+pub(crate) fn known_length(kind: u16, markets: usize) -> Option<usize> {
     match kind {
         HEAD => Some(head(0, 0, 0).len()),
         REGION => Some(region(0, 0, 0, 0, &vec![0; markets]).len()),
@@ -67,11 +66,18 @@ fn region(region: u8, mark: u8, flow: i32, factor: u32, prices: &[i32]) -> Vec<u
 }
 
 /// Bytes that are taken from the front.
-struct Front<'a> {
-    rest: &'a [u8],
+pub(crate) struct Front<'a> {
+    pub(crate) rest: &'a [u8],
 }
 
 impl<'a> Front<'a> {
+    /// The bytes from a place on; beyond their end there are none.
+    pub(crate) fn at(records: &'a [u8], place: usize) -> Front<'a> {
+        Front {
+            rest: records.get(place..).unwrap_or(&[]),
+        }
+    }
+
     fn take(&mut self, length: usize) -> Option<&'a [u8]> {
         let (taken, rest) = self.rest.split_at_checked(length)?;
         self.rest = rest;
@@ -79,12 +85,12 @@ impl<'a> Front<'a> {
     }
 
     /// The next bytes of a body that has them.
-    fn field<const WIDTH: usize>(&mut self) -> [u8; WIDTH] {
+    pub(crate) fn field<const WIDTH: usize>(&mut self) -> [u8; WIDTH] {
         let taken = self.take(WIDTH).expect("a body as long as its kind's");
         taken.try_into().expect("the width taken")
     }
 
-    fn byte(&mut self) -> u8 {
+    pub(crate) fn byte(&mut self) -> u8 {
         self.field::<1>()[0]
     }
 
@@ -108,7 +114,7 @@ impl<'a> Front<'a> {
     }
 
     /// The body of a record of the kind that is due; "41: a kind … that doesn't belong there".
-    fn due(&mut self, kind: u16, markets: usize) -> Result<Front<'a>, Refusal> {
+    pub(crate) fn due(&mut self, kind: u16, markets: usize) -> Result<Front<'a>, Refusal> {
         let (found, body) = self.record(markets)?;
         unless(found == kind, 41)?;
         Ok(body)
@@ -117,7 +123,7 @@ impl<'a> Front<'a> {
 
 impl Book {
     /// "given a book and a place, a call reads one and answers the place after it". What it reads takes the place of what is
-    /// lent. "10, 11 … come first; per record 40, 41, 42."
+    /// lent. "10, 11 … come first; per record 40, 41", and 45, which "in the reader … takes the place of 42".
     pub fn read_interval(
         &self,
         records: &[u8],
@@ -127,26 +133,23 @@ impl Book {
         self.sound()?;
         let shape = self.shape();
         unless(lent.fits(&shape), 11)?;
-        let mut front = Front {
-            rest: records.get(at..).unwrap_or(&[]),
-        };
+        let mut front = Front::at(records, at);
         let mut body = front.due(HEAD, shape.markets())?;
         let (number, kind) = (u32::from_le_bytes(body.field()), body.byte());
         // "or a region total in the head, that doesn't belong there"
         unless(usize::from(body.byte()) == shape.regions, 41)?;
-        // "One head is followed by R region records, each region once, in any order"
-        let mut bodies = BTreeMap::new();
-        for _ in 0..shape.regions {
+        // "Region records now follow their head as 0, 1 and so on."
+        let mut bodies = Vec::new();
+        for next in 0..shape.regions {
             let mut body = front.due(REGION, shape.markets())?;
-            let region = usize::from(body.byte());
-            // "42: a region from R up or given before"
-            unless(region < shape.regions, 42)?;
-            unless(bodies.insert(region, body).is_none(), 42)?;
+            // "45: a region record that isn't the next region"
+            unless(usize::from(body.byte()) == next, 45)?;
+            bodies.push(body);
         }
         *lent = Interval {
             number,
             kind,
-            ..in_order(bodies.into_values(), shape.markets())
+            ..in_order(bodies, shape.markets())
         };
         Ok(records.len() - front.rest.len())
     }
@@ -171,7 +174,10 @@ impl Book {
 }
 
 /// The four slices from the regions' bodies, upward and behind the region's number.
-fn in_order<'a>(bodies: impl Iterator<Item = Front<'a>>, markets: usize) -> Interval {
+pub(crate) fn in_order<'a>(
+    bodies: impl IntoIterator<Item = Front<'a>>,
+    markets: usize,
+) -> Interval {
     let mut interval = Interval {
         number: 0,
         kind: 0,

@@ -2,7 +2,7 @@
 //! definition and no code with the proved book: the ledger keeps the whole history and recomputes every sum, count,
 //! position and period from it, and limits go over every route one by one. Beside it stand a cache of what it recomputes,
 //! for windows of thousands of prices, and the book as a host keeps it, with its ring; and document 02's interval records,
-//! intervals left, thresholds in whole hundreds, and test load.
+//! with the earlier form and its rewriter, intervals left, thresholds in whole hundreds, and test load.
 //! Quotations are document 01's unless a file says otherwise.
 
 pub mod amount;
@@ -10,6 +10,7 @@ pub mod book;
 mod cache;
 pub mod calls;
 mod checking;
+mod earlier;
 pub mod image;
 pub mod index;
 pub mod interval;
