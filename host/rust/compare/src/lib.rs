@@ -2,6 +2,7 @@
 
 pub mod books;
 pub mod cutting;
+pub mod forms;
 pub mod hundreds;
 pub mod intervals;
 pub mod isolation;
@@ -11,6 +12,7 @@ pub mod limits;
 pub mod machines;
 pub mod playing;
 pub mod replay;
+pub mod rewriting;
 pub mod synthetic;
 pub mod twins;
 pub mod typed;

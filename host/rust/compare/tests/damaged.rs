@@ -3,9 +3,9 @@
 
 use compare::playing::{Playing, Start};
 use compare::typed::{paper, Pair};
-use compare::{books, intervals, left, rounds, say, synthetic};
+use compare::{books, intervals, left, rewriting, rounds, say, synthetic};
 use generator::draws::Drawing;
-use generator::intervals::{Reading, Writing};
+use generator::intervals::{rewriting_into, Reading, Writing};
 use generator::questions::Question;
 use generator::{calls, images, Random};
 use guxhamole::{raw, Book};
@@ -89,7 +89,7 @@ impl Met {
         number
     }
 
-    /// An interval written and read by a book of any fields, which both say 10 exactly where rule 10 does.
+    /// An interval written, read and rewritten by a book of any fields, which all say 10 exactly where rule 10 does.
     fn interval(&mut self, book: &raw::Book) {
         let book = paper(book);
         let writing = Writing {
@@ -105,7 +105,9 @@ impl Met {
             lent: writing.interval,
         };
         let read = intervals::read(&reading);
-        for refusal in [written.err(), read.err()] {
+        let again = rewriting_into(&reading, guxhamole::MOST_INTERVAL);
+        let rewritten = rewriting::rewrite(&again);
+        for refusal in [written.err(), read.err(), rewritten.err()] {
             let number = refusal.map_or(0, |refusal| refusal.number);
             let fault = reading.book.fault();
             assert_eq!(number, if fault.is_some() { 10 } else { 0 }, "{fault:?}");

@@ -1,5 +1,5 @@
-//! Interval records, and calls that read and write them: books of every size, intervals end to end with their regions in any
-//! order, whole and damaged, and places anywhere.
+//! Interval records, and calls that read, write and rewrite them: books of every size, intervals end to end with their regions in
+//! number order or in any other, whole and damaged, and places anywhere.
 
 use crate::calls;
 use crate::images;
@@ -23,6 +23,15 @@ pub struct Reading {
 pub struct Writing {
     pub book: Book,
     pub interval: Interval,
+    pub buffer: usize,
+}
+
+/// A rewriting into a buffer of a length.
+#[derive(Clone, Debug, PartialEq, Eq)]
+pub struct Rewriting {
+    pub book: Book,
+    pub records: Vec<u8>,
+    pub at: usize,
     pub buffer: usize,
 }
 
@@ -120,13 +129,24 @@ pub fn records(interval: &Interval, markets: usize, order: &[usize]) -> Vec<u8> 
     bytes
 }
 
-/// The regions upward, or in any order.
+/// The regions in number order, with two of them exchanged, or in any order.
 pub fn order(random: &mut Random, regions: usize) -> Vec<usize> {
     let mut order: Vec<usize> = (0..regions).collect();
-    if random.chance(70) {
-        for place in (1..regions).rev() {
-            order.swap(place, random.below(place + 1));
+    match random.below(10) {
+        0..=4 => order,
+        5 | 6 => {
+            order.swap(random.below(regions), random.below(regions));
+            order
         }
+        _ => any_order(random, regions),
+    }
+}
+
+/// The regions in any order.
+pub fn any_order(random: &mut Random, regions: usize) -> Vec<usize> {
+    let mut order: Vec<usize> = (0..regions).collect();
+    for place in (1..regions).rev() {
+        order.swap(place, random.below(place + 1));
     }
     order
 }
@@ -154,18 +174,23 @@ fn damage(random: &mut Random, book: &Book, at: usize, bytes: &mut Vec<u8>) {
         _ => random.pick(&MENU),
     };
     let end = (start + region_length(markets(book))).min(bytes.len());
-    match random.below(10) {
+    match random.below(11) {
         0 => bytes[anywhere] = value,
         1..=3 => bytes[near] = value,
         4 => bytes.truncate(anywhere),
         5 => bytes.insert(random.pick(&[anywhere, near, start]), value),
         6 | 7 => {
             let region = (start + 6).min(bytes.len() - 1);
-            let others = [book.regions, random.below(book.regions.into()) as u8];
-            bytes[region] = random.pick(&others);
+            let other = random.below(book.regions.into()) as u8;
+            bytes[region] = random.pick(&[book.regions, other, other, book.regions + 1, 255]);
         }
         8 => {
             bytes.drain(start..end);
+        }
+        9 => {
+            // The record and the one behind it exchanged.
+            let behind = (end + region_length(markets(book))).min(bytes.len());
+            bytes[start..behind].rotate_left(end - start);
         }
         _ => {
             let again = bytes[start..end].to_vec();
@@ -263,4 +288,48 @@ pub fn writing(random: &mut Random, book: &Book) -> Writing {
         interval,
         buffer,
     }
+}
+
+/// A rewriting of what a reading reads, seldom into a buffer that is too short.
+pub fn rewriting(random: &mut Random, reading: &Reading) -> Rewriting {
+    let length = length(&reading.book);
+    let buffer = match random.below(16) {
+        0 => random.below(length),
+        1 => length - 1,
+        2..=8 => length,
+        _ => length + random.below(40),
+    };
+    rewriting_into(reading, buffer)
+}
+
+/// A rewriting of what a reading reads, into a buffer of a length.
+pub fn rewriting_into(reading: &Reading, buffer: usize) -> Rewriting {
+    Rewriting {
+        book: reading.book.clone(),
+        records: reading.records.clone(),
+        at: reading.at,
+        buffer,
+    }
+}
+
+/// A reading of two intervals end to end, from the first, the regions of both in an order.
+pub fn two(random: &mut Random, book: &Book, order: &[usize]) -> Reading {
+    let mut bytes = Vec::new();
+    for _ in 0..2 {
+        let interval = interval(random, book);
+        bytes.extend(records(&interval, markets(book), order));
+    }
+    Reading {
+        lent: interval(random, book),
+        book: book.clone(),
+        records: bytes,
+        at: 0,
+    }
+}
+
+/// The regions of a book in number order, and back to front.
+pub fn up_and_down(book: &Book) -> [Vec<usize>; 2] {
+    let up: Vec<usize> = (0..book.regions.into()).collect();
+    let down = up.iter().rev().copied().collect();
+    [up, down]
 }
