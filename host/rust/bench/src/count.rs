@@ -1,7 +1,7 @@
 //! Calls to be counted by instructions rather than timed: `bench count proved|fast` and, where it is not the real market's free
 //! entry, the words `small`, `administered`, `report`, `store`, `load`, `question`, `schedule`, `draw` of the test load, or `read`,
-//! `shuffled` and `write` of interval records. Under callgrind's `--toggle-collect='*count::counted*'` the calls themselves are
-//! counted, on a book whose window is full.
+//! `write`, `rewrite-upward` and `rewrite-shuffled` of interval records. Under callgrind's `--toggle-collect='*count::counted*'` the
+//! calls themselves are counted, on a book whose window is full.
 
 use crate::intervals::{self, Day, Recorded, Room};
 use crate::lists::{Market, Trade, Trading};

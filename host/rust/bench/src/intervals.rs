@@ -1,4 +1,4 @@
-//! Interval records, read and written by both books over the same bytes: a day of intervals, end to end.
+//! Interval records, read, written and rewritten by both books over the same bytes: a day of intervals, end to end.
 
 use crate::lists::{Interval, Market, Trade, Trading};
 use crate::timing::Costs;
@@ -7,19 +7,21 @@ use crate::typed::{cost, timed, Typed};
 use guxhamole::Settings;
 use std::hint::black_box;
 
-/// What is timed: a reading of regions upward, one of regions in another order, a writing.
+/// What is timed: a reading, a writing, and rewritings of records whose regions go upward already and of others.
 #[derive(Clone, Copy, Debug, PartialEq, Eq)]
 pub enum Call {
     Read,
-    Shuffled,
     Write,
+    RewriteUpward,
+    RewriteShuffled,
 }
 
 /// Each by its name.
-pub const CALLS: [(&str, Call); 3] = [
+pub const CALLS: [(&str, Call); 4] = [
     ("read", Call::Read),
-    ("shuffled", Call::Shuffled),
     ("write", Call::Write),
+    ("rewrite-upward", Call::RewriteUpward),
+    ("rewrite-shuffled", Call::RewriteShuffled),
 ];
 
 /// Intervals of a day.
@@ -28,11 +30,13 @@ const DAY: usize = 288;
 /// Times that a round goes through the day.
 const TURNS: usize = 20;
 
-/// A book that reads and writes interval records. Every call must be accepted.
+/// A book that reads, writes and rewrites interval records. Every call must be accepted.
 pub trait Recorded: Typed {
     /// Fills the slices. Answers the place after the interval, its number and its day kind.
     fn read(&self, records: &[u8], at: usize, into: &mut Interval) -> (usize, u32, u8);
     fn write(&self, interval: &Interval, buffer: &mut [u8]) -> usize;
+    /// Answers the place after the interval taken.
+    fn rewrite(&self, records: &[u8], at: usize, buffer: &mut [u8]) -> usize;
 
     /// A book of a day's size.
     fn opened(day: &Day) -> Self {
@@ -65,6 +69,11 @@ impl Recorded for guxhamole::Book {
         let written = self.write_interval(interval, buffer);
         written.expect("an accepted writing")
     }
+
+    fn rewrite(&self, records: &[u8], at: usize, buffer: &mut [u8]) -> usize {
+        let next = self.rewrite_interval(records, at, buffer);
+        next.expect("an accepted rewriting")
+    }
 }
 
 impl Recorded for fast::Book {
@@ -92,6 +101,11 @@ impl Recorded for fast::Book {
         let written = self.write_interval(&interval, buffer);
         written.expect("an accepted writing")
     }
+
+    fn rewrite(&self, records: &[u8], at: usize, buffer: &mut [u8]) -> usize {
+        let next = self.rewrite_interval(records, at, buffer);
+        next.expect("an accepted rewriting")
+    }
 }
 
 /// A day's intervals, and their records with regions upward and in an order that changes from interval to interval.
@@ -103,7 +117,7 @@ pub struct Day {
     shuffled: Vec<u8>,
 }
 
-/// What is lent to the calls, and where the next reading begins.
+/// What is lent to the calls, and where the next reading or rewriting begins.
 pub struct Room {
     interval: Interval,
     buffer: Vec<u8>,
@@ -161,7 +175,7 @@ impl Day {
         }
     }
 
-    /// Both read the same from both, and write the same.
+    /// Both read the same, and write and rewrite the same.
     fn compare(&self) {
         let proved = guxhamole::Book::opened(self);
         let fast = fast::Book::opened(self);
@@ -177,7 +191,7 @@ impl Day {
                     two.call(&fast, self, call, turn),
                 );
                 assert!(answers.0 == answers.1, "{name} {turn} differs");
-                let read = call != Call::Write;
+                let read = call == Call::Read;
                 for room in &rooms {
                     let same = room.interval.holds(interval) || !read;
                     let upward = &self.upward[turn * self.bytes()..][..self.bytes()];
@@ -189,7 +203,7 @@ impl Day {
     }
 
     /// Measures each of `CALLS`.
-    pub fn measure(&self, rounds: usize) -> [Costs; 3] {
+    pub fn measure(&self, rounds: usize) -> [Costs; CALLS.len()] {
         let (proved, fast) = (guxhamole::Book::opened(self), fast::Book::opened(self));
         let mut room = self.room();
         let mut times = [Vec::new(), Vec::new()];
@@ -210,7 +224,7 @@ impl Day {
     }
 
     /// Nanoseconds of each of `CALLS`.
-    fn times<B: Recorded>(&self, book: &B, room: &mut Room) -> [f64; 3] {
+    fn times<B: Recorded>(&self, book: &B, room: &mut Room) -> [f64; CALLS.len()] {
         CALLS.map(|(_, call)| {
             let mut turn = 0;
             timed(TURNS * DAY, || {
@@ -232,7 +246,7 @@ impl Interval {
 }
 
 impl Room {
-    /// One call: a reading at the place after the last one's, or a writing of the turn's interval.
+    /// One call: a reading or a rewriting at the place after the last one's, or a writing of the turn's interval.
     #[inline(always)]
     pub fn call<B: Recorded>(
         &mut self,
@@ -241,16 +255,15 @@ impl Room {
         call: Call,
         turn: usize,
     ) -> (usize, u32, u8) {
-        let records = match call {
-            Call::Read => &day.upward,
-            Call::Shuffled => &day.shuffled,
-            Call::Write => {
-                let interval = &day.intervals[turn % DAY];
-                return (book.write(interval, &mut self.buffer), 0, 0);
-            }
+        let buffer = &mut self.buffer;
+        let found = match call {
+            Call::Read => book.read(&day.upward, self.at, &mut self.interval),
+            Call::Write => return (book.write(&day.intervals[turn % DAY], buffer), 0, 0),
+            Call::RewriteUpward => (book.rewrite(&day.upward, self.at, buffer), 0, 0),
+            Call::RewriteShuffled => (book.rewrite(&day.shuffled, self.at, buffer), 0, 0),
         };
-        let found = book.read(records, self.at, &mut self.interval);
-        self.at = if found.0 == records.len() { 0 } else { found.0 };
+        let end = day.upward.len();
+        self.at = if found.0 == end { 0 } else { found.0 };
         found
     }
 }

@@ -39,7 +39,8 @@ const REAL_ENTRIES: usize = 1_000;
 const SMALL_ENTRIES: usize = 40_000;
 const RESTARTS: usize = 40;
 
-/// The books whose interval records are read and written, and whose test load is drawn: the real one, the smallest and the largest.
+/// The books whose interval records are read, written and rewritten, and whose test load is drawn: the real one, the smallest and the
+/// largest.
 const RECORDED: [(u8, u8); 3] = [(5, 10), (1, 0), (8, 10)];
 
 /// Rounds, where none are said.
@@ -64,7 +65,8 @@ fn main() {
     };
     if done.is_none() {
         eprintln!("bench [intervals|loads|questions|schedules] [ROUNDS]");
-        eprintln!("bench count proved|fast [small] [administered] [report|store|load|question|schedule|draw|read|shuffled|write]");
+        eprintln!("bench count proved|fast [small] [administered] [report|store|load|question|schedule|draw]");
+        eprintln!("bench count proved|fast [small] [read|write|rewrite-upward|rewrite-shuffled]");
         std::process::exit(2);
     }
 }
@@ -111,7 +113,7 @@ fn typed_calls(rounds: usize) {
     }
 }
 
-/// Reading and writing of an interval's records, by time and by bytes a second.
+/// Reading, writing and rewriting of an interval's records, by time and by bytes a second.
 fn interval_records(rounds: usize) {
     let mut rows = Vec::new();
     for (regions, services) in RECORDED {
@@ -121,7 +123,7 @@ fn interval_records(rounds: usize) {
             let bytes = day.bytes();
             let name = format!("R {regions}, S {services}, {bytes} bytes: {name}");
             // One region has one order.
-            if call != intervals::Call::Shuffled || regions > 1 {
+            if call != intervals::Call::RewriteShuffled || regions > 1 {
                 rows.push((name, bytes, costs));
             }
         }

@@ -1,4 +1,5 @@
-//! Interval records, request 2026-01 of document 02: a reader and a writer. Quotations are document 02's.
+//! Interval records, requests 2026-01 and 2026-08 of document 02: a reader, a writer, and a rewriter of the earlier form. Quotations
+//! are document 02's.
 
 use crate::book::{unless, Book, Refusal, REGIONS};
 use crate::bytes::{decode, eight_at, encode, i32_at, put, u16_at, u32_at};
@@ -62,7 +63,7 @@ fn check(bytes: &[u8], due: u16, markets: usize) -> Result<usize, Refusal> {
 }
 
 impl Book {
-    /// "a call reads one and answers the place after it": 10, 11, then "per record 40, 41, 42". An interval is tested as a
+    /// "a call reads one and answers the place after it": 10, 11, then "per record 40, 41" and 45. An interval is tested as a
     /// whole, and gone through record by record only to find its refusal.
     pub fn read_interval(
         &self,
@@ -80,13 +81,12 @@ impl Book {
         let (length, size) = (self.interval_length(), self.region_length());
         let bytes = records.get(at..).unwrap_or_default();
         let whole = bytes.get(..length).unwrap_or_default();
-        let Some(places) = self.places(whole) else {
-            return Err(self.refusal_of(bytes));
-        };
+        if !self.in_number_order(whole) {
+            return Err(self.refusal_of(bytes, 45));
+        }
         let (head, rest) = whole.split_at(HEAD);
         let rows = interval.prices.chunks_exact_mut(self.markets());
-        for (region, row) in rows.enumerate() {
-            let record = &rest[usize::from(places[region]) * size..][..size];
+        for (region, (record, row)) in rest.chunks_exact(size).zip(rows).enumerate() {
             interval.marks[region] = record[7];
             interval.flows[region] = i32_at(record, 8);
             interval.factors[region] = u32_at(record, 12);
@@ -99,13 +99,59 @@ impl Book {
         })
     }
 
-    /// Which record is each region's, where every record is as it must be: R regions below R are all different where all of
-    /// them are met.
+    /// "Given book and place, a rewriter takes one interval of the earlier form …, writes it from the buffer's start in the fixed order
+    /// … and answers the place after the one taken": 10, 23, then 40 to 42, found as a reading's are.
+    pub fn rewrite_interval(
+        &self,
+        records: &[u8],
+        at: usize,
+        buffer: &mut [u8],
+    ) -> Result<usize, Refusal> {
+        unless(self.valid(), 10)?;
+        let (length, size) = (self.interval_length(), self.region_length());
+        unless(length <= buffer.len(), 23)?;
+        let bytes = records.get(at..).unwrap_or_default();
+        let whole = bytes.get(..length).unwrap_or_default();
+        let Some(places) = self.places(whole) else {
+            return Err(self.refusal_of(bytes, 42));
+        };
+        let (head, rest) = whole.split_at(HEAD);
+        let (new_head, new_rest) = buffer[..length].split_at_mut(HEAD);
+        new_head.copy_from_slice(head);
+        for (record, place) in new_rest.chunks_exact_mut(size).zip(places) {
+            record.copy_from_slice(&rest[usize::from(place) * size..][..size]);
+        }
+        Ok(at + length)
+    }
+
+    /// Whether a head stands before the rest.
+    #[inline]
+    fn headed(&self, head: &[u8]) -> bool {
+        let found = u64::from_le_bytes(eight_at(head, 0)) & START;
+        found == start(HEAD, HEAD_KIND) && head[11] == self.regions
+    }
+
+    /// Whether every record of an interval is as it must be: length, kind and region, seven bytes, are compared as one number.
+    #[inline]
+    fn in_number_order(&self, interval: &[u8]) -> bool {
+        let Some((head, rest)) = interval.split_at_checked(HEAD) else {
+            return false;
+        };
+        let size = self.region_length();
+        let mut right = self.headed(head);
+        for (turn, record) in rest.chunks_exact(size).enumerate() {
+            let expected = start(size, REGION_KIND) | (turn as u64) << 48;
+            right &= u64::from_le_bytes(eight_at(record, 0)) << 8 == expected << 8;
+        }
+        right
+    }
+
+    /// Which record is each region's, where every record is as it must be in the earlier form: R regions below R are all different where
+    /// all of them are met.
     #[inline]
     fn places(&self, interval: &[u8]) -> Option<[u8; REGIONS]> {
         let (head, rest) = interval.split_at_checked(HEAD)?;
-        let head_start = u64::from_le_bytes(eight_at(head, 0)) & START;
-        let mut right = head_start == start(HEAD, HEAD_KIND) && head[11] == self.regions;
+        let mut right = self.headed(head);
         let size = self.region_length();
         let expected = start(size, REGION_KIND);
         let (mut places, mut met) = ([0; REGIONS], 0u32);
@@ -119,9 +165,10 @@ impl Book {
         (right && met + 1 == 1 << self.regions).then_some(places)
     }
 
-    /// The first refusal of records that are refused.
+    /// The first refusal of records that are refused; a region is refused by 45 unless it is the next, or by 42, "a region from R up or
+    /// given before".
     #[cold]
-    fn refusal_of(&self, bytes: &[u8]) -> Refusal {
+    fn refusal_of(&self, bytes: &[u8], region_by: u32) -> Refusal {
         let refused = |number: u32| Refusal { number, place: 0 };
         let mut rest = bytes;
         let mut met = 0u32;
@@ -134,10 +181,17 @@ impl Book {
             if turn == 0 && rest[11] != self.regions {
                 return refused(41);
             }
-            if turn > 0 && (rest[6] >= self.regions || met >> rest[6] & 1 == 1) {
-                return refused(42);
+            if turn > 0 {
+                let region = rest[6];
+                let right = match region_by {
+                    45 => u32::from(region) + 1 == turn,
+                    _ => region < self.regions && met >> region & 1 == 0,
+                };
+                if !right {
+                    return refused(region_by);
+                }
+                met |= 1 << region;
             }
-            met |= u32::from(turn > 0) << (rest[6] % 32);
             rest = &rest[length..];
         }
         unreachable!("such an interval is accepted")

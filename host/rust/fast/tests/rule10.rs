@@ -70,6 +70,7 @@ fn all_refuse(spoil: impl Fn(&mut Book)) {
         factors: &mut [0; 2],
     };
     assert_eq!(book.read_interval(&[], 0, slices), Err(refused));
+    assert_eq!(book.rewrite_interval(&[], 0, &mut []), Err(refused));
     assert_eq!(book.intervals_left(&ring, 0, 0, 0), Err(refused));
     assert_eq!((book, ring), before);
 }
