@@ -1,4 +1,5 @@
-//! Bytes as interval records, read at any place by a book of any size, sound or damaged; then what the slices hold is written.
+//! Bytes as interval records, read at any place by a book of any size, sound or damaged, and rewritten from there; then what the
+//! slices hold is written.
 
 use crate::bytes::Bytes;
 use crate::pages::Pages;
@@ -47,6 +48,19 @@ fn lent(bytes: &mut Bytes, book: &Book) -> Interval {
     }
 }
 
+/// Slices of the lengths that the book asks for.
+fn fitting(book: &Book) -> Interval {
+    let regions = book.regions().into();
+    Interval {
+        number: 0,
+        kind: 0,
+        prices: vec![-1; book.prices_length()],
+        marks: vec![2; regions],
+        flows: vec![-3; regions],
+        factors: vec![4; regions],
+    }
+}
+
 pub fn run(room: &mut [Pages], data: &[u8]) -> Met {
     let mut bytes = Bytes::new(data);
     let at_end = bytes.byte().is_multiple_of(2);
@@ -55,8 +69,9 @@ pub fn run(room: &mut [Pages], data: &[u8]) -> Met {
     let buffer = bytes.length(book.interval_length());
     let records = bytes.part(Pages::most::<u8>());
     let read = read(room, at_end, &book, records, at, &mut interval);
+    let rewritten = rewrite(room, at_end, &book, records, at, buffer);
     let written = write(room, at_end, &book, &interval, buffer);
-    vec![("read", read), ("write", written)]
+    vec![("read", read), ("rewrite", rewritten), ("write", written)]
 }
 
 /// The number that both readers answer; what they read takes the place of what is lent.
@@ -94,6 +109,44 @@ fn read(
         && factors.holds(&interval.factors);
     assert!(filled, "slices after the reading");
     expected.err().map_or(0, |refusal| refusal.number)
+}
+
+/// The number that both rewriters answer. What was written is then rewritten to itself, and read to the entry that the earlier reader
+/// gives.
+fn rewrite(
+    room: &mut [Pages],
+    at_end: bool,
+    book: &Book,
+    records: &[u8],
+    at: usize,
+    buffer: usize,
+) -> u32 {
+    let [one, two, ..] = room else {
+        unreachable!("two slices at least")
+    };
+    let bytes = one.hold(records, at_end);
+    let lent = two.lend::<u8>(buffer, at_end);
+    let mut expected_buffer = lent.lent.to_vec();
+    let next = told(book.rewrite_interval(bytes.lent, at, lent.lent));
+    let expected = paper(book.raw()).rewrite_interval(records, at, &mut expected_buffer);
+    assert_eq!(next, expected, "rewriting");
+    assert!(bytes.holds(records), "records of the rewriting");
+    assert!(lent.holds(&expected_buffer), "buffer of the rewriting");
+    let Ok(next) = expected else {
+        return expected.err().map_or(0, |refusal| refusal.number);
+    };
+    let form = &expected_buffer[..next - at];
+    let (bytes, lent) = (one.hold(form, at_end), two.lend::<u8>(form.len(), at_end));
+    assert_eq!(
+        book.rewrite_interval(bytes.lent, 0, lent.lent),
+        Ok(next - at)
+    );
+    assert!(lent.holds(form), "what is rewritten again");
+    let (mut interval, mut earlier) = (fitting(book), fitting(book));
+    assert_eq!(read(room, at_end, book, form, 0, &mut interval), 0);
+    let taken = paper(book.raw()).read_earlier(records, at, &mut earlier);
+    assert_eq!((taken, earlier), (Ok(next), interval), "the same entry");
+    0
 }
 
 /// The number that both writers answer.

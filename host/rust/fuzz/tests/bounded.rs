@@ -49,7 +49,9 @@ fn interval(random: &mut Random) -> Vec<u8> {
     input.extend([0; 3]);
     input.push(3);
     input.extend((reading.at as u64).to_le_bytes());
-    input.extend([0; 10]);
+    input.extend([0; 9]);
+    // The buffer's length: mostly the interval's.
+    input.push(random.pick(&[0, 0, 0, 0, 0, 0, 0, 0, 128, 200]));
     input.extend(reading.records);
     input
 }
@@ -184,7 +186,7 @@ fn bounded() {
 
 /// The answers that a run over all inputs must have met.
 fn all_met(met: &BTreeMap<(&'static str, u32), u64>) {
-    let expected: [(&str, &[u32]); 15] = [
+    let expected: [(&str, &[u32]); 16] = [
         ("check", &[0]),
         ("load", &[0]),
         ("opening", &[0, 18, 44]),
@@ -198,7 +200,8 @@ fn all_met(met: &BTreeMap<(&'static str, u32), u64>) {
         ("text and index", &[0]),
         ("intervals left", &[0, 10, 11, 21, 22, 43]),
         ("draw", &[0, 10, 11]),
-        ("read", &[0, 10, 11, 40, 41, 42]),
+        ("read", &[0, 10, 11, 40, 41, 45]),
+        ("rewrite", &[0, 10, 23, 40, 41, 42]),
         ("write", &[0, 10, 11, 23]),
     ];
     for (name, numbers) in expected {
