@@ -39,17 +39,14 @@ part-is bytes from n h =
 part-length : (bytes : List ℕ) (from n : ℕ) → from + n ≤ length bytes → length (take n (drop from bytes)) ≡ n
 part-length bytes from n h = length-take-le n (drop from bytes) (simp length-drop (omega arith))
 
--- ---- the room of each record, and how long the records are together
+-- ---- the room of the records, and how long each is and all are together
 module _ (R M : ℕ) (bytes : List ℕ) (at : ℕ) (g : Given R M bytes at) where
   pub records-room : at + headLength + R * regionLength M ≤ length bytes
   records-room = dues-room R M bytes (at + headLength) (g .head .room) (g .due) R (omega arith)
 
-  pub record-room : (r : ℕ) → r < R → (k : ℕ) → k ≡ recordOf R M bytes (at + headLength) r
-      → at + headLength + k * regionLength M + regionLength M ≤ length bytes
-  record-room r h k q = rw q (g .due (recordOf R M bytes (at + headLength) r) (record-below R M bytes at g r h) .room)
-
   pub record-length : (r : ℕ) → r < R → length (recordBytes R M bytes (at + headLength) r) ≡ regionLength M
-  record-length r h = part-length bytes _ (regionLength M) (record-room r h _ refl)
+  record-length r h =
+      part-length bytes _ (regionLength M) (g .due (recordOf R M bytes (at + headLength) r) (record-below R M bytes at g r h) .room)
 
   pub reordered-length : length (reordered R M bytes at) ≡ intervalLength R M
   unfolding reordered

@@ -8,9 +8,10 @@ use Rattle.laws.specs.Lists.{joined}
 use Rattle.interval_records.specs.Layout.{headLength, regionLength}
 use Rattle.interval_records.proofs.Verdicts.{room-at}
 use Rattle.interval_writer.proofs.Writes.{regions-none, regions-step, regions-done}
+use Rattle.interval_rewriter.specs.AnyOrder.{recordOf}
 use Rattle.interval_rewriter.specs.Rewriting.{recordBytes}
-use Rattle.interval_rewriter.proofs.AnyOrder.{Given, given-is}
-use Rattle.interval_rewriter.proofs.Rewrites.{records-room, record-room, record-length}
+use Rattle.interval_rewriter.proofs.AnyOrder.{Given, given-is, record-below}
+use Rattle.interval_rewriter.proofs.Rewrites.{records-room, record-length}
 use Rattle.interval_rewriter.proofs.rewriting.copy_records.Statement.{statement}
 use Rattle.interval_rewriter.proofs.rewriting.copy_records.Tie as tie
 
@@ -45,41 +46,50 @@ loop-holds c = (omega arith, refl, regions-none _ (regionLength (c .before .befo
 record-of-requires : tie.Need-record-of-requires Inv-loop μ-loop
 record-of-requires c κs = let s = c .before .before .before .before in (s .pre .0 .0, room s)
 
--- the record that was found is there, and so is its place in the buffer
+-- both the region and its record are below R: the record is there, and so is its place in the buffer
 module _ (c : tie.After-record-of Inv-loop μ-loop) where
   abbrev start : tie.Start Inv-loop μ-loop
   start = c .before .before .before .before .before
 
-  abbrev turn : ℕ
-  turn = c .before .before .loop .r
+  abbrev region : ℕ
+  region = c .before .before .loop .r
 
-  here : let a = start .args in
-      a .at + headLength + c .record-of .result * regionLength (a .markets) + regionLength (a .markets) ≤ length (a .bytes .now)
-  here =
+  there : (j : ℕ) → j < start .args .regions → let a = start .args in let size = regionLength (a .markets) in
+      (a .at + headLength + j * size + size ≤ length (a .bytes .now)) × (12 + j * size + size ≤ length (c .before .before .loop .buffer))
+  there j h =
       let a = start .args in
-      let h : turn < a .regions = omega arith in
-      record-room (a .regions) (a .markets) (a .bytes .now) (a .at) (given start) turn h (c .record-of .result) (c .record-of .ensures)
+      let size = regionLength (a .markets) in
+      let k = room-at 12 size (a .regions) j _ h (start .pre .1) in
+      (room-at (a .at + headLength) size (a .regions) j _ h (room start), omega (arith, k, c .before .before .loop .inv .1))
 
-  there : 12 + turn * regionLength (start .args .markets) + regionLength (start .args .markets) ≤ length (c .before .before .loop .buffer)
-  there =
-      let h : turn < start .args .regions = omega arith in
-      let k = room-at 12 (regionLength (start .args .markets)) (start .args .regions) turn _ h (start .pre .1) in
-      omega (arith, k, c .before .before .loop .inv .1)
+  found : c .record-of .result < start .args .regions
+  found =
+      let a = start .args in
+      let h : region < a .regions = omega arith in
+      let q : c .record-of .result ≡ recordOf (a .regions) (a .markets) (a .bytes .now) (a .at + headLength) region = c .record-of .ensures in
+      omega (arith, q, record-below (a .regions) (a .markets) (a .bytes .now) (a .at) (given start) region h)
+
+  own : let a = start .args in let size = regionLength (a .markets) in
+      (a .at + headLength + region * size + size ≤ length (a .bytes .now)) × (12 + region * size + size ≤ length (c .before .before .loop .buffer))
+  own = there region (omega arith)
 
 mul-copy : tie.Need-mul-copy Inv-loop μ-loop
-mul-copy c = omega (arith, here c)
+mul-copy c = omega (arith, own c, there c (c .record-of .result) (found c))
 
 add-copy : tie.Need-add-copy Inv-loop μ-loop
-add-copy c = omega (arith, here c)
+add-copy c = omega (arith, own c, there c (c .record-of .result) (found c))
 
 mul-copy-2 : tie.Need-mul-copy-2 Inv-loop μ-loop
-mul-copy-2 c = omega (arith, there (c .before))
+mul-copy-2 c = let f = c .before in omega (arith, own f, there f (f .record-of .result) (found f))
 
 add-copy-2 : tie.Need-add-copy-2 Inv-loop μ-loop
-add-copy-2 c = omega (arith, there (c .before))
+add-copy-2 c = let f = c .before in omega (arith, own f, there f (f .record-of .result) (found f))
 
 copy-requires : tie.Need-copy-requires Inv-loop μ-loop
-copy-requires c κs = (here (c .before), there (c .before))
+copy-requires c κs =
+    let f = c .before in
+    let k = there f (f .record-of .result) (found f) in
+    (omega (arith, own f, k), omega (arith, own f, k))
 
 add-r : tie.Need-add-r Inv-loop μ-loop
 add-r c = omega arith

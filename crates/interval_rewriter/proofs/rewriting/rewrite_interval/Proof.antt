@@ -57,7 +57,7 @@ add-markets : tie.Need-add-markets
 add-markets c = search needs
 
 copy-requires : tie.Need-copy-requires
-copy-requires c κs = let e = c .before .before in (given e .head .room, omega (arith, asks e .long))
+copy-requires c κs = let e = c .before .before in (omega (arith, given e .head .room), omega (arith, asks e .long))
 
 cast-copy-records : tie.Need-cast-copy-records
 cast-copy-records c = search needs

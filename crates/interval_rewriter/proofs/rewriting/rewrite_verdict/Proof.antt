@@ -2,8 +2,10 @@
 use mathlib.Core.Path.{_≡_, sym, _∙_}
 use mathlib.Core.Bool.{true}
 use borrow.Author.Tests.{not-true, not-false}
+use Rattle.book.specs.Record.{marketsOf, verdict}
 use Rattle.book.specs.Validity.{valid}
 use Rattle.interval_records.specs.Layout.{lengthFor}
+use Rattle.interval_rewriter.specs.AnyOrder.{recordsVerdict}
 use Rattle.interval_rewriter.proofs.Rewrites.{rewrite-10, rewrite-23, rewrite-rest}
 use borrow.Author.Needs.{needs}
 use Rattle.interval_rewriter.proofs.rewriting.rewrite_verdict.Statement.{statement}
@@ -39,7 +41,9 @@ returns-3 c =
     let v = n .before in
     let a = v .before .before .before .args in
     let size : n .interval-length .result ≡ lengthFor (a .book) = n .interval-length .ensures .0 in
-    c .records-verdict .ensures
+    let told : verdict (c .records-verdict .result) ≡ recordsVerdict (a .book .regions) (marketsOf (a .book .services)) (a .bytes .now) (a .at) =
+    c .records-verdict .ensures in
+    told
     ∙ rewrite-rest (a .book) (a .bytes .now) (a .at) (a .room) (good v) (rw (← size) (c .before .if2 .left))
 
 pub rewrite-verdict-spec : {M : Type 1} → statement M

@@ -7,6 +7,7 @@ use native.Mathlib.Omega.{arith}
 use lib.ListN.{length, drop}
 use lib.Seq.{sets}
 use Rattle.laws.specs.Lists.{run, tabulate}
+use Rattle.laws.specs.Bytes.{priceAt}
 use Rattle.laws.proofs.Lists.{tab-none, tab-step}
 use Rattle.laws.proofs.Rows.{rows-none, rows-step, rows-done}
 use Rattle.interval_records.specs.Layout.{regionLength}
@@ -61,7 +62,7 @@ read-region-requires c κs =
     let l = k .before .loop in
     let s = k .before .before .before .before .before in
     let h : l .r < s .args .regions = omega arith in (
-      (here k, omega (arith, row-in (l .r) (s .args .regions) (s .args .markets) h, s .pre .1 .0, l .inv .1)),
+      (omega (arith, here k), omega (arith, row-in (l .r) (s .args .regions) (s .args .markets) h, s .pre .1 .0, l .inv .1)),
       (omega (arith, s .pre .1 .0, l .inv .1), omega (arith, s .pre .1 .1, l .inv .1), omega (arith, s .pre .1 .1, l .inv .1)),
     )
 
@@ -77,12 +78,15 @@ loop-again c =
     let k = c .before .before .before .before .before .before .before .before .before .before .before in
     let l = k .before .loop in
     let a = k .before .before .before .before .before .args in
+    let here = recordPlace (a .markets) (a .first) (l .r) in
+    let stored : n .last .1 .1 .1 .1 .0 ≡ sets (l .prices) (l .r * a .markets) (tabulate (a .markets) (priceAt (a .bytes .now) (here + 16))) =
+    n .ensures .0 in
     let row = row-of (a .markets) (a .bytes .now) (a .first) (l .r) in
     let f = priceFrom (a .markets) (a .bytes .now) (a .first) (λ i. i) in
     let t = n .kept .1 .1 .1 .1 in (
       omega arith,
       (t .0 ∙ l .inv .1 .0, t .1 .0 ∙ l .inv .1 .1, t .1 .1 .0 ∙ l .inv .1 .2, t .1 .1 .1 .0 ∙ l .inv .1 .3),
-      n .ensures .0 ∙ rows-step f (a .markets) (a .prices .now) (l .prices) _ (l .r) (l .inv .2) row,
+      stored ∙ rows-step f (a .markets) (a .prices .now) (l .prices) _ (l .r) (l .inv .2) row,
       n .ensures .1 .0 ∙ tab-step _ (l .r) (a .marked .now) (l .marked) _ (l .inv .3) (omega arith) refl,
       n .ensures .1 .1 .0 ∙ tab-step _ (l .r) (a .flows .now) (l .flows) _ (l .inv .4) (omega arith) refl,
       n .ensures .1 .1 .1 ∙ tab-step _ (l .r) (a .factors .now) (l .factors) _ (l .inv .5) (omega arith) refl,
