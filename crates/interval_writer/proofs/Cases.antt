@@ -6,7 +6,7 @@ use lib.IntN.{pos, negsuc}
 use lib.ListN.{replicate, take}
 use Rattle.laws.specs.Lists.{run, joined, allBelow}
 use Rattle.laws.specs.Bytes.{le, number, numberAt, encode, words}
-use Rattle.pricing.specs.Verdict.{Verdict, accepted, refused}
+use Rattle.pricing.specs.Verdict.{accepted, refused}
 use Rattle.book.specs.declared.record.Book.{Book}
 use Rattle.book.specs.Validity.{valid}
 use Rattle.interval_records.specs.Layout.{Interval, intervalOf, headWidths, regionWidths, headRecord, regionRecord, intervalBytes}

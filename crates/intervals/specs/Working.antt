@@ -1,4 +1,4 @@
--- What only proofs need: the first two refusals of both calls, and a test load's, told by the slices' lengths. Assumes nothing.
+-- What only proofs need: the first two refusals of reading and writing, and a test load's, told by the slices' lengths. Assumes nothing.
 use mathlib.Core.Bool.{not}
 use Prim.Native.Nat.{ℕ}
 use Rattle.laws.specs.Base.{pick}

@@ -1,4 +1,4 @@
-// The first refusals of both calls on interval records, and all of a test load's: the book, and the lengths of the four slices.
+// The first refusals of reading and writing an interval's records, and all of a test load's: the book, and the lengths of the four slices.
 use book::record::Answer;
 use book::record::Book;
 use book::record::Refusal;
