@@ -7,7 +7,7 @@ use Rattle.pricing.specs.Verdict.{Verdict, accepted}
 use Rattle.pricing.specs.Holding.{limitsOk}
 use Rattle.book.specs.declared.record.Book.{Book}
 use Rattle.book.specs.declared.record.Refusal.{Refusal}
-use Rattle.book.specs.declared.record.Refusal.the-variants.{Invalid, Length, Full, Number, Kind, Mark, Price, Factor, Threshold, Limits, Setting, Market, Sums, Buffer, ImageLength, ImageKind, ImageField, ImageTotal, Broken, RecordKind, RecordRegion, PlannedPrice, Hundreds, RecordOrder}
+use Rattle.book.specs.declared.record.Refusal.the-variants.{Invalid, Length, Full, Number, Kind, Mark, Price, Factor, Threshold, Limits, Setting, Market, Sums, Buffer, ImageLength, ImageKind, ImageField, ImageTotal, Broken, RecordKind, RecordRegion, PlannedPrice, Hundreds, RecordOrder, BilledEnergy}
 use Rattle.book.specs.declared.record.Answer.{Answer}
 use Rattle.book.specs.declared.record.Answer.the-variants.{Accepted, Refused}
 use Rattle.book.specs.Record.{verdictOf, verdict, isAccepted}
@@ -51,6 +51,7 @@ refusal-is RecordRegion = refl
 refusal-is PlannedPrice = refl
 refusal-is Hundreds = refl
 refusal-is RecordOrder = refl
+refusal-is (BilledEnergy place) = refl
 
 -- ---- an answer that says a verdict
 module _ (a : Answer) (v : Verdict) (h : verdict a ≡ v) where

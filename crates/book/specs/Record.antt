@@ -8,7 +8,7 @@ use lib.ListN.{replicate}
 use Rattle.pricing.specs.Verdict.{Verdict, accepted, refused, refusedAt}
 use Rattle.book.specs.declared.record.Book.{Book}
 use Rattle.book.specs.declared.record.Refusal.{Refusal}
-use Rattle.book.specs.declared.record.Refusal.the-variants.{Invalid, Length, Full, Number, Kind, Mark, Price, Factor, Threshold, Limits, Setting, Market, Sums, Buffer, ImageLength, ImageKind, ImageField, ImageTotal, Broken, RecordKind, RecordRegion, PlannedPrice, Hundreds, RecordOrder}
+use Rattle.book.specs.declared.record.Refusal.the-variants.{Invalid, Length, Full, Number, Kind, Mark, Price, Factor, Threshold, Limits, Setting, Market, Sums, Buffer, ImageLength, ImageKind, ImageField, ImageTotal, Broken, RecordKind, RecordRegion, PlannedPrice, Hundreds, RecordOrder, BilledEnergy}
 use Rattle.book.specs.declared.record.Answer.{Answer}
 use Rattle.book.specs.declared.record.Answer.the-variants.{Accepted, Refused}
 
@@ -75,6 +75,7 @@ verdictOf RecordRegion = refused 42
 verdictOf PlannedPrice = refused 43
 verdictOf Hundreds = refused 44
 verdictOf RecordOrder = refused 45
+verdictOf (BilledEnergy place) = refusedAt 46 place
 
 abbrev pub verdict : Answer → Verdict
 verdict Accepted = accepted

@@ -62,6 +62,7 @@ pub enum Refusal {
     PlannedPrice,
     Hundreds,
     RecordOrder,
+    BilledEnergy(usize),
 }
 
 // What a call that answers nothing else says.
@@ -121,6 +122,7 @@ pub fn number(refusal: Refusal) -> u32
         Refusal::PlannedPrice => 43,
         Refusal::Hundreds => 44,
         Refusal::RecordOrder => 45,
+        Refusal::BilledEnergy(_) => 46,
     }
 }
 
@@ -132,6 +134,7 @@ pub fn place(refusal: Refusal) -> usize
         Refusal::Mark(place) => place,
         Refusal::Price(place) => place,
         Refusal::Factor(place) => place,
+        Refusal::BilledEnergy(place) => place,
         _ => 0,
     }
 }

@@ -1,11 +1,11 @@
--- `book::record::place` meets its contract: three cases have a place, and each other case is named. Assumes nothing.
+-- `book::record::place` meets its contract: four cases have a place, and each other case is named. Assumes nothing.
 use mathlib.Core.Path.{_≡_, refl, sym, ap}
 use mathlib.Core.List.{List, [], _∷_}
 use Prim.Native.Nat.{ℕ}
 use types.Run.{OneOf, miss}
 use denote.Enum.Declared.{tagOf}
 use Rattle.book.specs.declared.record.Refusal.{Refusal}
-use Rattle.book.specs.declared.record.Refusal.the-variants.{Invalid, Length, Full, Number, Kind, Mark, Price, Factor, Threshold, Limits, Setting, Market, Sums, Buffer, ImageLength, ImageKind, ImageField, ImageTotal, Broken, RecordKind, RecordRegion, PlannedPrice, Hundreds, RecordOrder}
+use Rattle.book.specs.declared.record.Refusal.the-variants.{Invalid, Length, Full, Number, Kind, Mark, Price, Factor, Threshold, Limits, Setting, Market, Sums, Buffer, ImageLength, ImageKind, ImageField, ImageTotal, Broken, RecordKind, RecordRegion, PlannedPrice, Hundreds, RecordOrder, BilledEnergy}
 use Rattle.book.proofs.record.Refusal.{the-type}
 use Rattle.book.specs.Record.{verdictOf}
 use borrow.Author.Needs.{needs}
@@ -24,6 +24,7 @@ none : (r : Refusal) → OneOf others (tagOf the-type r) → 0 ≡ verdictOf r .
 none (Mark p) h = absurd (miss others 5 tt h)
 none (Price p) h = absurd (miss others 6 tt h)
 none (Factor p) h = absurd (miss others 7 tt h)
+none (BilledEnergy p) h = absurd (miss others 24 tt h)
 none Invalid h = refl
 none Length h = refl
 none Full h = refl
@@ -55,6 +56,9 @@ enum-known-refusal-2 c = search needs
 enum-known-refusal-3 : tie.Need-enum-known-refusal-3
 enum-known-refusal-3 c = search needs
 
+enum-known-refusal-4 : tie.Need-enum-known-refusal-4
+enum-known-refusal-4 c = search needs
+
 returns : tie.Need-returns
 returns c = of _ _ (c .before .refusal .given .1)
 
@@ -65,7 +69,10 @@ returns-3 : tie.Need-returns-3
 returns-3 c = of _ _ (c .before .refusal3 .given .1)
 
 returns-4 : tie.Need-returns-4
-returns-4 c = none (c .before .args .refusal) (c .match .keys4)
+returns-4 c = of _ _ (c .before .refusal4 .given .1)
+
+returns-5 : tie.Need-returns-5
+returns-5 c = none (c .before .args .refusal) (c .match .keys5)
 
 pub place-spec : {M : Type 1} → statement M
 place-spec =
@@ -74,7 +81,9 @@ place-spec =
     enum-known-refusal
     enum-known-refusal-2
     enum-known-refusal-3
+    enum-known-refusal-4
     returns
     returns-2
     returns-3
-    returns-4)
+    returns-4
+    returns-5)

@@ -1,0 +1,4 @@
+mod Tolds
+pub mod Leads
+pub mod Firsts
+pub mod Lents

@@ -1,0 +1,2 @@
+pub mod Billing
+pub mod Working

@@ -1,0 +1,2 @@
+mod Ways
+pub mod Steps
