@@ -1,2 +1,3 @@
 pub mod Days
 mod Judging
+pub mod Places

@@ -1,7 +1,8 @@
-// What a C host calls: the book that it keeps between calls, interval records, test loads, intervals left, the schedule maker, the amount
-// text, the index, the image check and the replay, over plain numbers and the host's own memory. Each function is one call of the proved
-// operation.
+// What a C host calls: the book that it keeps between calls, interval records, test loads, bills, intervals left, the schedule maker, the
+// amount text, the index, the image check and the replay, over plain numbers and the host's own memory. Each function is one call of the
+// proved operation.
 use amount::write_amount;
+use billing::check_bill;
 use book::record::Book;
 use book::record::Settings;
 use book_calls::opening::open;
@@ -9,6 +10,7 @@ use book_calls::report::report;
 use book_calls::setting::set_limits;
 use book_calls::setting::set_threshold;
 use entries::enter;
+use face::Billed;
 use face::Drawn;
 use face::Found;
 use face::Kept;
@@ -18,6 +20,7 @@ use face::Rows;
 use face::Seen;
 use face::Taken;
 use face::Written;
+use face::billed_of;
 use face::drawn_of;
 use face::found_of;
 use face::interval_of;
@@ -59,9 +62,11 @@ ghost use Rattle.intervals.specs.Reading.{readInterval};
 ghost use Rattle.interval_writer.specs.Writing.{writeInterval};
 ghost use Rattle.interval_rewriter.specs.Rewriting.{rewriteInterval};
 ghost use Rattle.synthetic.specs.Synthetic.{synthesized};
+ghost use Rattle.bill_lines.specs.Lines.{linesOf};
+ghost use Rattle.billing.specs.Billing.{billOf, billed};
 ghost use Rattle.planning.specs.Left.{intervalsLeft};
 ghost use Rattle.face.specs.Face.{openedOf, changedOf, takenOf, numbersOf, storedOf, loadedOf};
-ghost use Rattle.face.specs.Face.{readOf, writeOf, rewriteOf, synthesizedOf, plannedOf, rowsOf, energyOf};
+ghost use Rattle.face.specs.Face.{readOf, writeOf, rewriteOf, synthesizedOf, judgedOf, plannedOf, rowsOf, energyOf};
 ghost use Rattle.replay.specs.Replay.{lentOf, outcome, replayed};
 ghost use Rattle.replay.specs.Promise.{promised};
 ghost use Rattle.capi.specs.Host.{year, indexAnswer};
@@ -226,6 +231,31 @@ pub extern "C" fn guxhamole_interval_rewrite(
     let rewritten = rewrite_interval(book, records, at, buffer);
     let place = rewritten.place;
     rewritten_of(place)
+}
+
+// Holds a bill's lines against the published prices of a region in a day's records, which are entered on `work` in place of `ring`.
+#[no_mangle]
+pub extern "C" fn guxhamole_bill(
+    book: Book,
+    ring: &[i32],
+    work: &mut [i32],
+    records: &[u8],
+    schedule: &[i32],
+    region: u32,
+    numbers: &[u32],
+    energy: &[u32],
+    prices: &[i32],
+    amounts: &[i64],
+) -> Billed
+    ensures { λ r. ⌜ (let lines = linesOf (now (numbers .entry)) (now (energy .entry)) (now (prices .entry)) (now (amounts .entry)) in
+        judgedOf r book (now (work .exit))
+        ≡ billed book (now (ring .entry)) (now (work .entry)) (billOf (now (records .entry)) (now (schedule .entry)) region lines)) ⌝ }
+{
+    let checked = check_bill(
+        book, ring, work, records, schedule, region, numbers, energy, prices, amounts,
+    );
+    let judgement = checked.judgement;
+    billed_of(judgement)
 }
 
 // Fills the four slices with a test load that is drawn from a seed.

@@ -30,6 +30,9 @@ use Rattle.interval_writer.proofs.Places.{write-place, write-book}
 use Rattle.interval_rewriter.specs.Rewriting as Rewriting
 use Rattle.interval_rewriter.specs.Rewriting.{rewriteInterval}
 use Rattle.interval_rewriter.proofs.Places.{rewrite-place, rewrite-book}
+use Rattle.billing.specs.Billing as Billing
+use Rattle.billing.specs.Billing.{Bill, billed}
+use Rattle.billing.proofs.Places.{bill-book}
 use Rattle.planning.specs.Left as Planning
 use Rattle.planning.specs.Left.{intervalsLeft}
 use Rattle.planning.proofs.Places.{left-place, left-book}
@@ -44,9 +47,10 @@ use Rattle.face.specs.declared.Found.{Found}
 use Rattle.face.specs.declared.Rewritten.{Rewritten}
 use Rattle.face.specs.declared.Drawn.{Drawn}
 use Rattle.face.specs.declared.Left.{Left}
-use Rattle.face.specs.Face.{verdictBy, keptBy, takenBy, seenBy, writtenBy, foundBy, rewrittenBy, drawnBy, leftBy}
+use Rattle.face.specs.declared.Billed.{Billed}
+use Rattle.face.specs.Face.{verdictBy, keptBy, takenBy, seenBy, writtenBy, foundBy, rewrittenBy, drawnBy, leftBy, billedBy}
 use Rattle.face.specs.Face.{openedOf, changedOf, loadedOf, takenOf, numbersOf, storedOf}
-use Rattle.face.specs.Face.{readOf, writeOf, rewriteOf, synthesizedOf, plannedOf}
+use Rattle.face.specs.Face.{readOf, writeOf, rewriteOf, synthesizedOf, plannedOf, judgedOf}
 
 -- ---- calls that hand back a book
 module _ (k : Kept) {v : Verdict} {b : Book} (e : k ≡ keptBy v b) where
@@ -158,3 +162,11 @@ left-by r {v} {n} {c} b ring region market price e h =
     let p : v .place ≡ 0 = ap (λ (x : Planning.Outcome). x .verdict .place) h ∙ left-place b ring region market price in
     let q : c ≡ b = ap (λ (x : Planning.Outcome). x .book) h ∙ left-book b ring region market price in
     ap (λ (x : Left). plannedOf x b) e ∙ (rw (p, q) at h)
+
+-- ---- a bill
+pub bill-by : (r : Billed) {v : Verdict} {right line : ℕ} {c : Book} {after : List ℤ} (b : Book) (ring work : List ℤ) (bill : Bill)
+    → r ≡ billedBy v right line → record { verdict = v; right = right; line = line; book = c; work = after } ≡ billed b ring work bill
+    → judgedOf r b after ≡ billed b ring work bill
+bill-by r {v} {right} {line} {c} {after} b ring work bill e h =
+    let q : c ≡ b = ap (λ (x : Billing.Outcome). x .book) h ∙ bill-book b ring work bill in
+    ap (λ (x : Billed). judgedOf x b after) e ∙ (rw q at h)

@@ -16,6 +16,7 @@ use Rattle.interval_records.specs.Layout.{intervalOf}
 use Rattle.intervals.specs.Reading as Reading
 use Rattle.interval_writer.specs.Writing as Writing
 use Rattle.interval_rewriter.specs.Rewriting as Rewriting
+use Rattle.billing.specs.Billing as Billing
 use Rattle.planning.specs.Left as Planning
 use Rattle.schedule.specs.Schedule as Schedule
 use Rattle.synthetic.specs.Synthetic as Synthetic
@@ -27,6 +28,7 @@ use Rattle.face.specs.declared.Found.{Found}
 use Rattle.face.specs.declared.Rewritten.{Rewritten}
 use Rattle.face.specs.declared.Drawn.{Drawn}
 use Rattle.face.specs.declared.Left.{Left}
+use Rattle.face.specs.declared.Billed.{Billed}
 use Rattle.face.specs.declared.Rows.{Rows}
 
 -- "number" and "place" beside each other: number 0 is an acceptance
@@ -86,6 +88,11 @@ synthesizedOf r book prices marked flows factors = record {
 abbrev pub plannedOf : Left → Book → Planning.Outcome
 plannedOf r book = record { verdict = verdictBy (r .number) 0; intervals = r .intervals; book = book }
 
+-- 2026-09: "15 to 17 give the place within their own entry", and 46 the line; the book is the caller's
+abbrev pub judgedOf : Billed → Book → List ℤ → Billing.Outcome
+judgedOf r book work =
+    record { verdict = verdictBy (r .number) (r .place); right = r .right; line = r .line; book = book; work = work }
+
 abbrev pub rowsOf : Rows → Schedule.Outcome
 rowsOf r = record { verdict = verdictBy (r .number) (r .place); weekday = r .weekday; weekend = r .weekend }
 
@@ -117,3 +124,6 @@ drawnBy v seed entry kind = record { number = v .number; seed = seed; entry = en
 
 abbrev pub leftBy : Verdict → ℕ → Left
 leftBy v intervals = record { number = v .number; intervals = intervals }
+
+abbrev pub billedBy : Verdict → ℕ → ℕ → Billed
+billedBy v right line = record { number = v .number; place = v .place; right = right; line = line }

@@ -1,4 +1,5 @@
 // What a host in C is answered: the answers of the calls on a book and of the schedule maker, as plain structs laid out as in C.
+use billing::Judgement;
 use book::record::Answer;
 use book::record::Book;
 use book::record::Refusal;
@@ -14,6 +15,7 @@ use interval_writer::writing::Size;
 use schedule::Making;
 use synthetic::Draw;
 ghost use mathlib.Core.Path.{_≡_};
+ghost use Rattle.billing.specs.Billing as Billing;
 ghost use Rattle.book.specs.Record as Record;
 ghost use Rattle.book.specs.Record.{verdict};
 ghost use Rattle.book_calls.specs.Report.{numbers};
@@ -25,7 +27,7 @@ ghost use Rattle.interval_rewriter.specs.Rewriting as Rewriting;
 ghost use Rattle.planning.specs.Left as Planning;
 ghost use Rattle.schedule.specs.Schedule.{verdictOf, answered};
 ghost use Rattle.synthetic.specs.Synthetic as Synthetic;
-ghost use Rattle.face.specs.Face.{keptBy, takenBy, seenBy, writtenBy, foundBy, rewrittenBy, drawnBy, leftBy, rowsOf};
+ghost use Rattle.face.specs.Face.{keptBy, takenBy, seenBy, writtenBy, foundBy, rewrittenBy, drawnBy, leftBy, billedBy, rowsOf};
 
 // `guxhamole_kept`: a call that hands back a book and nothing else.
 #[repr(C)]
@@ -91,6 +93,15 @@ pub struct Drawn {
 pub struct Left {
     pub number: u32,
     pub intervals: u32,
+}
+
+// `guxhamole_billed`: whether a bill is right, or its first wrong line. Of its refusals those of an entry and 46 have a place.
+#[repr(C)]
+pub struct Billed {
+    pub number: u32,
+    pub place: u64,
+    pub right: u32,
+    pub line: u64,
 }
 
 // `guxhamole_rows`: a schedule.
@@ -265,6 +276,31 @@ pub fn left_of(left: planning::Left) -> Left
         planning::Left::Refused(refusal) => Left {
             number: number(refusal),
             intervals: 0,
+        },
+    }
+}
+
+pub fn billed_of(judgement: Judgement) -> Billed
+    ensures { λ r. ⌜ r ≡ billedBy (Billing.verdict judgement) (Billing.rightIn judgement) (Billing.lineIn judgement) ⌝ }
+{
+    match judgement {
+        Judgement::Right => Billed {
+            number: 0,
+            place: 0,
+            right: 1,
+            line: 0,
+        },
+        Judgement::Wrong(first) => Billed {
+            number: 0,
+            place: 0,
+            right: 0,
+            line: first as u64,
+        },
+        Judgement::Refused(refusal) => Billed {
+            number: number(refusal),
+            place: place(refusal) as u64,
+            right: 0,
+            line: 0,
         },
     }
 }
