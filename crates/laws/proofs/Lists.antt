@@ -317,6 +317,17 @@ firstOf-passed (suc n) t k h = go (t zero) refl (firstOf-passed n (λ j. t (suc 
     go false e rest zero h = e
     go false e rest (suc k) h = rest k (omega arith)
 
+-- what was found passes it
+pub firstOf-hit : (n : ℕ) (t : ℕ → Bool) → firstOf n t < n → t (firstOf n t) ≡ true
+unfolding firstOf
+firstOf-hit zero t h = absurd (not-suc-le-zero h)
+firstOf-hit (suc n) t h = go (t zero) refl (firstOf-hit n (λ k. t (suc k))) h
+  where
+    go : (b : Bool) → t zero ≡ b → (firstOf n (λ i. t (suc i)) < n → t (suc (firstOf n (λ i. t (suc i)))) ≡ true)
+        → pick b zero (suc (firstOf n (λ i. t (suc i)))) < suc n → t (pick b zero (suc (firstOf n (λ i. t (suc i))))) ≡ true
+    go true e rest h = e
+    go false e rest h = rest (omega arith)
+
 -- where all pass, none is the first that does not; where not all do, one is
 pub firstOf-all : (n : ℕ) (t : ℕ → Bool) → allBelow n t ≡ true → firstOf n (λ k. not (t k)) ≡ n
 firstOf-all n t a = firstOf-none n (λ k. not (t k)) (λ k h. ap not (all-at n t a k h))

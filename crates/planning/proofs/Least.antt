@@ -11,14 +11,8 @@ use lib.IntN.{ℤ}
 use Rattle.laws.specs.Base.{pick}
 use Rattle.laws.specs.Lists.{firstOf}
 use Rattle.laws.proofs.Tests.{by-test, lt-or-ge}
-use Rattle.laws.proofs.Lists.{firstOf-found, firstOf-none, firstOf-passed}
+use Rattle.laws.proofs.Lists.{firstOf-found, firstOf-none, firstOf-passed, firstOf-hit}
 use Rattle.planning.specs.Left.{exceeds, leastAbove, Least}
-
--- what the first one found is
-found-at : (n : ℕ) (t : ℕ → Bool) → firstOf n t < n → t (firstOf n t) ≡ true
-unfolding firstOf
-found-at zero t h = absurd (omega arith)
-found-at (suc n) t h = by-test (t zero) (λ e. rw e e) (λ e. rw e (found-at n (λ k. t (suc k)) (omega (arith, subst (λ (b : Bool). pick b zero (suc (firstOf n (λ k. t (suc k)))) < suc n) e h))))
 
 module _ (W : ℕ) (window : List ℤ) (price threshold : ℤ) where
   abbrev test : ℕ → Bool
@@ -36,7 +30,7 @@ module _ (W : ℕ) (window : List ℤ) (price threshold : ℤ) where
       record {
         some = omega arith;
         most = omega arith;
-        above = subst (λ (k : ℕ). test k ≡ true) q (found-at W test l);
+        above = subst (λ (k : ℕ). test k ≡ true) q (firstOf-hit W test l);
         fewer = λ k a b. let z : k ≡ suc (k - 1) = omega arith in subst (λ (i : ℕ). exceeds W window price threshold i ≡ false) (sym z) (firstOf-passed W test (k - 1) (omega arith));
       })
       (λ t. absurd (omega (arith, subst (λ (b : Bool). pick b (suc first) 0 ≡ suc n) t e)))

@@ -1,0 +1,4 @@
+pub mod Agreeing
+pub mod Answers
+pub mod Numbers
+pub mod Cases
