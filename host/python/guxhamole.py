@@ -14,6 +14,9 @@ of the earlier form, in any order, are brought to it once by `book.rewrite_inter
 A test load that anyone can remake (request 2026-07 of document 02) is drawn from a 32-bit seed, each interval from the
 seed that came with the one before: `seed, interval = book.synthetic(seed, book.entries, 0)`.
 
+A retailer's bill is held against the rules (request 2026-09 of document 02) by the book before the first interval:
+`book.check_bill(records, schedule, region, lines)` says that it is right, or which line is the first that isn't.
+
 Money is in whole cents, the index in whole dollars. docs/REFUSALS.md has every refusal, host/c/guxhamole.h every
 function.
 
@@ -79,10 +82,12 @@ MEANINGS = {
     43: "a price asked about is outside its market's entry range",
     44: "a threshold that is no multiple of 10,000 cents",
     45: "a record that isn't the next region's",
+    46: "a bill's line of more than 1,000,000,000 kilowatt-hours",
 }
 
-# "15 to 17 give the first place in the lent slice"; beside any other refusal the place is 0 and says nothing.
-PLACED = (15, 16, 17)
+# "15 to 17 give the first place in the lent slice", 46 the line; beside any other refusal the place is 0 and says
+# nothing.
+PLACED = (15, 16, 17, 46)
 
 
 class Refusal(Exception):
@@ -163,6 +168,22 @@ class Drawn(NamedTuple):
     interval: Interval
 
 
+class Line(NamedTuple):
+    """A line of a retailer's bill: an interval's number, kilowatt-hours, published energy price and amount."""
+
+    number: int
+    energy: int
+    price: int
+    amount: int
+
+
+class Judgement(NamedTuple):
+    """Whether a bill is right; if not, its first wrong line, counted from 0, a missing or surplus one included."""
+
+    right: bool
+    line: Optional[int]
+
+
 class Schedule(NamedTuple):
     """Two rows of 48 prices, a row a kind of day; places from the day's half-hours up are zero."""
 
@@ -220,13 +241,17 @@ class _Left(ctypes.Structure):
     _fields_ = [("number", c_uint32), ("intervals", c_uint32)]
 
 
+class _Billed(ctypes.Structure):
+    _fields_ = [("number", c_uint32), ("place", c_uint64), ("right", c_uint32), ("line", c_uint64)]
+
+
 class _Rows(ctypes.Structure):
     _fields_ = [("number", c_uint32), ("place", c_uint64), ("weekday", c_int32 * 48), ("weekend", c_int32 * 48)]
 
 
 _SIZES = {
     _Settings: 32, _Book: 864, _Kept: 880, _Entered: 888, _Reading: 24, _Stored: 16, _Found: 24, _Rewritten: 16,
-    _Drawn: 16, _Left: 8, _Rows: 400,
+    _Drawn: 16, _Left: 8, _Billed: 32, _Rows: 400,
 }
 for _layout, _size in _SIZES.items():
     if ctypes.sizeof(_layout) != _size:
@@ -240,6 +265,7 @@ def _slice(number):
 
 _BYTES, _SIGNED, _UNSIGNED = _slice(c_uint8), _slice(c_int32), _slice(c_uint32)
 _CONTENTS = [*_SIGNED, *_BYTES, *_SIGNED, *_UNSIGNED]  # prices, marks, flows, factors
+_COLUMNS = Line(c_uint32, c_uint32, c_int32, c_int64)  # what a bill's four slices hold
 
 # What each function answers and takes, as host/c/guxhamole.h has it.
 _FUNCTIONS = {
@@ -255,6 +281,8 @@ _FUNCTIONS = {
     "interval_write": (_Stored, [_Book, c_uint32, c_uint8, *_CONTENTS, *_BYTES]),
     "interval_rewrite": (_Rewritten, [_Book, *_BYTES, c_size_t, *_BYTES]),
     "synthetic": (_Drawn, [_Book, c_uint32, c_uint32, c_uint8, *_CONTENTS]),
+    "bill": (_Billed, [_Book, *_SIGNED, *_SIGNED, *_BYTES, *_SIGNED, c_uint32,
+                       *(argument for kind in _COLUMNS for argument in _slice(kind))]),
     "schedule": (_Rows, [c_uint8, c_int32, c_int32, c_uint8, *_SIGNED, *_BYTES]),
     "amount_text": (c_size_t, [c_int64, *_BYTES]),
     "image_check": (c_uint32, _BYTES),
@@ -297,7 +325,7 @@ def _fits(value: int, kind) -> int:
 
 
 # An `array` tests every number that goes into it, as ctypes does not.
-_CODES = {c_int32: "i", c_uint8: "B", c_uint32: "I"}
+_CODES = {c_int32: "i", c_uint8: "B", c_uint32: "I", c_int64: "q"}
 
 
 def _numbers(values: Sequence[int], kind):
@@ -309,6 +337,13 @@ def _numbers(values: Sequence[int], kind):
 def _contents(prices: Sequence[int], marks: Sequence[int], flows: Sequence[int], factors: Sequence[int]):
     """What an entry lends and an interval's records carry."""
     return [_numbers(prices, c_int32), _numbers(marks, c_uint8), _numbers(flows, c_int32), _numbers(factors, c_uint32)]
+
+
+def _columns(lines: Sequence[Line]):
+    """A bill's lines as the library takes them, a slice a field. The `array` of an older Python would cut a Decimal, so
+    that what is no whole number raises here."""
+    rows = [Line(*map(operator.index, line)) for line in lines]
+    return [_numbers([row[field] for row in rows], kind) for field, kind in enumerate(_COLUMNS)]
 
 
 def _bytes(given):
@@ -453,6 +488,21 @@ class Book:
         lent = self._slices()
         answer = _accepted(_face().guxhamole_synthetic(self._book, *head, *_lent(*lent)))
         return Drawn(answer.seed, Interval(answer.entry, answer.day_kind, *map(list, lent)))
+
+    def check_bill(self, records: bytes, schedule: Sequence[int], region: int, lines: Sequence[Line]) -> Judgement:
+        """A region's bill held against the records of a day, any bytes-like object, from the first byte to the last,
+        and one schedule, by the book before the first interval. It is right exactly if there is one line an interval in
+        order, with its number, the published energy price, and the amount kilowatt-hours x price / 1,000 rounded half
+        away from zero. The intervals are entered in a second ring, made for this call: the book and its own ring stay
+        as they were, after a refusal too. Refusals: 11 21; of each interval in turn 40 41 45 and 12 to 17, with places
+        within its own entry; then 46, with the line."""
+        answer = self._bill((c_int32 * len(self._ring))(), records, schedule, region, lines)
+        return Judgement(True, None) if answer.right == 1 else Judgement(False, answer.line)
+
+    def _bill(self, work, records: bytes, schedule: Sequence[int], region: int, lines: Sequence[Line]) -> _Billed:
+        """Apart from `check_bill`, so that a test can lend a second ring and see what the call leaves in it."""
+        lent = [*_lent(_bytes(records), _numbers(schedule, c_int32)), _fits(region, c_uint32), *_lent(*_columns(lines))]
+        return _accepted(_face().guxhamole_bill(self._book, *_lent(self._ring, work), *lent))
 
     def _slices(self):
         """Room for an interval of this book: its prices, marks, flows and factors."""

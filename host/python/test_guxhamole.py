@@ -220,7 +220,7 @@ class Refusals(unittest.TestCase):
         self.assertEqual(bytes(room), bytes([9] * 151))
 
     def test_meanings(self):
-        self.assertEqual(list(guxhamole.MEANINGS), [*range(10, 28), *range(30, 34), *range(40, 46)])
+        self.assertEqual(list(guxhamole.MEANINGS), [*range(10, 28), *range(30, 34), *range(40, 47)])
         refusal = pickle.loads(pickle.dumps(Refusal(16, 3)))
         self.assertEqual(str(refusal), "refused 16 at 3: a price out of its market's range")
 
