@@ -113,9 +113,13 @@ class Ledger:
         prices = [entry.prices[place] for entry in self.entries[:t + 1] if entry.marks[region] == 0]
         return prices[-self.opening.window:]
 
+    def total(self, region, market, t):
+        """ "Sum after t: the total of the market's last W entry prices up to t at which its region was unmarked" """
+        return sum(self.counted(region, market, t))
+
     def triggers(self, region, market, t):
         """ "Entry t triggers a market if its sum after t is above the threshold at t" """
-        return sum(self.counted(region, market, t)) > self.setting(t).threshold
+        return self.total(region, market, t) > self.setting(t).threshold
 
     def releases(self, region, market, t):
         """ "at position D−1 it releases a market that it doesn't trigger" """
