@@ -44,7 +44,7 @@ def library_bill(book, ring, work, records, schedule, region, lines):
     stands there three times, so that a call that strays finds some."""
     record, second = bytes(book), (c_int32 * (len(work) + 2 * MARGIN))(*[FILL] * MARGIN, *work, *[FILL] * MARGIN)
     given = [(c_int32, ring), (c_uint8, records), (c_int32, schedule), *zip(KINDS, lines)]
-    threes = [(kind * (3 * len(numbers)))(*numbers, *numbers, *numbers) for kind, numbers in given]
+    threes = [guxhamole._numbers([*numbers] * 3, kind) for kind, numbers in given]
     parts = [(kind * len(numbers)).from_buffer(three, len(numbers) * ctypes.sizeof(kind))
              for (kind, numbers), three in zip(given, threes)]
     before, lent = [bytes(three) for three in threes], guxhamole._lent

@@ -258,6 +258,16 @@ class Refusals(Compared):
         book._book.marks[0] = 0
         self.on_all(book, records, [0, 0], 0, lines, wrong(0), [70_000])
 
+    def test_before_the_day(self):
+        """10, 11 and 21 on the book of one region; the second ring, whatever its length, stays."""
+        raw, closed, lines = Book.open(ONE)._book, guxhamole._Book(), columns(BILL)
+        unequal = lines._replace(amounts=lines.amounts[:1])
+        steps = ((raw, [FILL], [0, 0], 1, DAY, lines, 21), (raw, [FILL], [0, 0], 1, DAY, unequal, 11),
+                 (raw, [FILL] * 2, [0, 0], 0, DAY, lines, 11), (raw, [FILL], [0], 0, b"", columns([]), 11),
+                 (closed, [FILL], [0, 0], 0, DAY, lines, 10))
+        for book, work, schedule, region, records, four, number in steps:
+            self.on_raw(book, [0], work, records, schedule, region, four, refused(number), work)
+
     def test_lengths(self):
         """11 of each slice that has a length, before 21, and before any record; and nothing is written."""
         raw = Book.open(B2)._book
