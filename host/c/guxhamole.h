@@ -1,13 +1,14 @@
 /* The functions that a host in C11 or C++17 calls: a book of administered prices that the host keeps in its own memory, and
-   beside it the intervals left before a period, the records of intervals, synthetic intervals for tests, the image check, the
-   schedule maker, the index, the amount text and the replay of lists of calls. Link with libcapi.a, which `rt staticlib capi`
-   writes to target/staticlib, for x86-64 Linux alone. docs/REFUSALS.md has every number that they answer: its meaning, its place
-   and what a host should do. host/c/box.c is a host to copy.
+   beside it the intervals left before a period, the records of intervals, the check of a retailer's bill, synthetic intervals for
+   tests, the image check, the schedule maker, the index, the amount text and the replay of lists of calls. Link with libcapi.a, which
+   `rt staticlib capi` writes to target/staticlib, for x86-64 Linux alone. docs/REFUSALS.md has every number that they answer: its
+   meaning, its place and what a host should do. host/c/box.c is a host to copy.
 
    Proved of every function, for all arguments: it reads and writes only what it is lent, allocates nothing, keeps no pointer
    and no state of its own, ends, and its whole outcome (the answer, the book that it hands back and the contents of every
    slice that it is lent) is that of the rule's definition. A refused call writes nothing, hands the book back as it was and
-   answers zeros beside number and place.
+   answers zeros beside number and place. One exception: guxhamole_bill works in a second ring, lent as `work`, which it may have
+   written when it refuses; its comment says what `work` then holds, and that no other lent memory changes.
 
    Proved over sequences of calls: for every start and every list of calls after it the answers are exactly those of the ledger
    machine, which keeps the whole history and no sum: acceptance, or refusal with its place; an entry's count and published
@@ -16,8 +17,8 @@
    host, it
    - begins with an accepted guxhamole_open, or with an accepted guxhamole_load of such an image;
    - hands each call the book that the call before handed back, accepted or refused; guxhamole_report, guxhamole_store,
-     guxhamole_intervals_left, the three calls of interval records and guxhamole_synthetic hand none back and change none, so
-     that the next call gets the same book again;
+     guxhamole_intervals_left, the three calls of interval records, guxhamole_bill and guxhamole_synthetic hand none back and change
+     none, so that the next call gets the same book again;
    - lends the ring that the opening or load was lent, at its full length, and lets these calls alone write to it and to the
      book (both may be copied and moved between calls: what they hold counts, not where they stand);
    - restarts by a guxhamole_store into a long enough buffer and a guxhamole_load, from exactly the `length` bytes that were
@@ -94,7 +95,8 @@ enum guxhamole_refusal {
     GUXHAMOLE_RECORD_REGION = 42, /* a record's region is none of the book's, or was given before; the rewriter's alone */
     GUXHAMOLE_PLANNED_PRICE = 43, /* the price of further intervals is outside its market's range of entry prices */
     GUXHAMOLE_HUNDREDS = 44,      /* the threshold is within its range, but no multiple of 10,000: no whole hundreds of dollars */
-    GUXHAMOLE_RECORD_ORDER = 45   /* a region's record isn't the next region's */
+    GUXHAMOLE_RECORD_ORDER = 45,  /* a region's record isn't the next region's */
+    GUXHAMOLE_BILLED_ENERGY = 46  /* a line's kilowatt-hours are above 1,000,000,000; its place is the line */
 };
 
 /* What a book is opened with; money in cents. */
@@ -169,6 +171,13 @@ typedef struct guxhamole_rewritten {
     uint32_t number;
     uint64_t next; /* the place after the interval that was taken, in the records that it was taken from */
 } guxhamole_rewritten;
+
+typedef struct guxhamole_billed {
+    uint32_t number; /* 0, or the refusal */
+    uint64_t place;  /* with 15, 16, 17 and 46 */
+    uint32_t right;  /* 1: yes */
+    uint64_t line;   /* with number 0 and right 0: the first wrong line, counted from 0 */
+} guxhamole_billed;
 
 typedef struct guxhamole_drawn {
     uint32_t number;
@@ -279,6 +288,37 @@ guxhamole_stored guxhamole_interval_write(guxhamole_book book, uint32_t entry, u
                                           uint8_t *buffer, size_t buffer_length);
 guxhamole_rewritten guxhamole_interval_rewrite(guxhamole_book book, const uint8_t *records, size_t records_length, size_t at,
                                                uint8_t *buffer, size_t buffer_length);
+
+/* Holds a retailer's bill against the rules: whether it has one line an interval of the records, in their order, and each line the
+   interval's number, the region's published energy price, and as its amount kilowatt-hours x price / 1,000, rounded half away from
+   zero. The intervals are read and entered one after the other, as by guxhamole_interval_read and guxhamole_enter, on a copy of the
+   book and its ring. With n intervals and m lines, the bill is right if n is m and every line is; else the first wrong line is
+   answered, counted from 0: the least i at which interval i and line i are not both there and equal, which is m where a line is missing
+   and n where one is surplus. No interval and no line: right. Every interval is played, also after a wrong line.
+     book                       as it was before the first interval; it is not handed back, and goes on as it was
+     ring                       the book's, which is only read
+     work                       a second ring of the same length, whatever it holds; another than the first
+     records                    the intervals, end to end from the first byte to the last; any number of them, of a day or not
+     schedule                   R x M x 2 x H in cents, as an entry's: one for all the intervals
+     region                     whose energy price was billed
+     numbers, energy, prices,   the lines: m each. Interval number, kilowatt-hours, published price in cents a megawatt-hour, amount in
+     amounts                    cents
+   Refusals: 10, 11 (ring, work, schedule, and lines of unequal lengths), 21; then interval after interval 10, 40, 41, 45 as the reader
+   has them and 12, 13, 14, 15, 16, 17 as the entry; then 46, the first line above 1,000,000,000 kilowatt-hours, surplus ones too.
+   Place of 15 to 17: as the entry's, within its own interval, and not told is which one it is; of 46: the line. An interval's 10
+   occurs only over a ring that others changed. Refused: right and line are 0.
+   By the first 10, by 11 and by 21 `work` stays as it was. In every other case, refused or not, it is then the book's ring with what the
+   entries accepted till then made of it: all of them, or those before the interval that was refused. Nothing else is written.
+   `work` must overlap none of the other slices. These may overlap one another.
+   It is no call of the list of which the ledger machine is told: it takes nothing, and book and ring stay as they were. */
+guxhamole_billed guxhamole_bill(guxhamole_book book, const int32_t *ring, size_t ring_length,
+                                int32_t *work, size_t work_length,
+                                const uint8_t *records, size_t records_length,
+                                const int32_t *schedule, size_t schedule_length, uint32_t region,
+                                const uint32_t *numbers, size_t numbers_length,
+                                const uint32_t *energy, size_t energy_length,
+                                const int32_t *prices, size_t prices_length,
+                                const int64_t *amounts, size_t amounts_length);
 
 /* Draws a synthetic interval, a test load that anyone can remake from its seed, into the slices that an entry takes. Each draw
    replaces s, at first the seed, by (s x 1,664,525 + 1,013,904,223) mod 2^32, and gives d = s div 65,536. The R x M prices are
@@ -436,6 +476,11 @@ GUXHAMOLE_AT(found, day_kind, 20);
 GUXHAMOLE_SIZE(rewritten, 16);
 GUXHAMOLE_AT(rewritten, number, 0);
 GUXHAMOLE_AT(rewritten, next, 8);
+GUXHAMOLE_SIZE(billed, 32);
+GUXHAMOLE_AT(billed, number, 0);
+GUXHAMOLE_AT(billed, place, 8);
+GUXHAMOLE_AT(billed, right, 16);
+GUXHAMOLE_AT(billed, line, 24);
 GUXHAMOLE_SIZE(drawn, 16);
 GUXHAMOLE_AT(drawn, number, 0);
 GUXHAMOLE_AT(drawn, seed, 4);
