@@ -49,6 +49,7 @@ void independent_ledger_open(struct independent_ledger *ledger, const guxhamole_
     memset(ledger->triggered, 0, sizeof ledger->triggered);
     memset(ledger->released, 0, sizeof ledger->released);
     memset(ledger->counts, 0, sizeof ledger->counts);
+    memset(ledger->beside, 0, sizeof ledger->beside);
 }
 
 void independent_ledger_load(struct independent_ledger *ledger, const uint8_t *image)
@@ -128,7 +129,8 @@ int64_t independent_sum(const int32_t *prices, size_t count, size_t window)
 
 static int64_t market_sum(const struct independent_ledger *ledger, unsigned region, unsigned market)
 {
-    return independent_sum(ledger->prices[11 * region + market], ledger->counts[region], ledger->settings.window);
+    int64_t sum = independent_sum(ledger->prices[11 * region + market], ledger->counts[region], ledger->settings.window);
+    return sum + ledger->beside[11 * region + market];
 }
 
 /* Whether the entry triggers the market, or else, as the last of its day, releases it. */

@@ -15,6 +15,7 @@ struct independent_ledger {
     uint32_t triggered[88], released[88]; /* the last entry that did so to the market, from 1 up, at 11 x region + market; 0: none */
     size_t counts[8];                     /* of the intervals at which the region was unmarked */
     int32_t prices[88][LEDGER_MOST];      /* that these brought, at 11 x region + market */
+    int64_t beside[88];                   /* what others put beside a sum in a forged book; zeros otherwise (independent_bill.h) */
 };
 
 /* What an opening, a threshold or limits are refused by, or 0. */

@@ -1,6 +1,8 @@
 /* Intervals left before a period, by entering them. */
 #include "independent_left.h"
 
+#include "independent_book.h"
+
 #include <string.h>
 
 enum { HOLDS_BOOK, HOLDS_LENGTH, HOLDS_MARKET, HOLDS_SUMS, HOLDS_PRICE };
@@ -52,65 +54,12 @@ struct independent_left independent_ledger_left(struct independent_ledger *ledge
     return left;
 }
 
-/* 10, of the fields that the book has once. */
-static int fields_bad(const guxhamole_book *book)
-{
-    return outside(book->regions, 1, 8) || book->services > 10 || outside(book->window, 1, 2016) || outside(book->halves, 1, 48) ||
-           book->position >= 6 * book->halves || outside(book->threshold, 1, 100000000000) || outside(book->cap, 1, 10000000) ||
-           outside(book->floor, -10000000, -1) || book->entries > 10000000;
-}
-
-/* 10, of a region. An unused one has no parent and counts nothing. */
-static int region_bad(const guxhamole_book *book, unsigned region)
-{
-    unsigned parent = book->parents[region], count = book->counts[region], place = book->nexts[region];
-    if (region >= book->regions)
-        return parent != 255 || count != 0 || place != 0;
-    if ((parent != 255 && parent >= region) || count > book->window || count > book->entries)
-        return 1;
-    return count < book->window ? place != count : place >= book->window;
-}
-
-/* 10, of a market. */
-static int market_bad(const guxhamole_book *book, unsigned region, unsigned market)
-{
-    int64_t sum = book->sums[11 * region + market];
-    unsigned mark = book->marks[11 * region + market];
-    if (region >= book->regions || market > book->services)
-        return sum != 0 || mark != 0;
-    return outside(sum, -20160000000, 20160000000) || mark > 1;
-}
-
-static int book_bad(const guxhamole_book *book)
-{
-    int bad = fields_bad(book);
-    for (unsigned region = 0; region < 8; region++) {
-        bad |= region_bad(book, region);
-        for (unsigned market = 0; market < 11; market++)
-            bad |= market_bad(book, region, market);
-    }
-    return bad;
-}
-
-/* A market's counted prices, oldest first, from the latest back: it stands before the next place, and place 0 comes after the last.
-   Answers how many. */
-static size_t counted_prices(const guxhamole_book *book, const int32_t *ring, unsigned region, unsigned market, int32_t *prices)
-{
-    const int32_t *window = ring + (region * (book->services + (size_t)1) + market) * book->window;
-    size_t count = book->counts[region], place = book->nexts[region];
-    for (size_t i = count; i > 0; i--) {
-        place = (place == 0 ? book->window : place) - 1;
-        prices[i - 1] = window[place];
-    }
-    return count;
-}
-
 /* 22, of a market. */
 static int window_bad(const guxhamole_book *book, const int32_t *ring, unsigned region, unsigned market)
 {
     static int32_t prices[2016];
     int bad = 0;
-    size_t count = counted_prices(book, ring, region, market, prices);
+    size_t count = independent_counted(book, ring, region, market, prices);
     for (size_t i = 0; i < count; i++)
         bad |= price_bad(market, prices[i]);
     return bad || independent_sum(prices, count, count) != book->sums[11 * region + market];
@@ -131,7 +80,7 @@ struct independent_left independent_intervals_left(const guxhamole_book *book, c
     static int32_t prices[2 * 2016];
     struct independent_left left;
     memset(&left, 0, sizeof left);
-    left.holds[HOLDS_BOOK] = book_bad(book);
+    left.holds[HOLDS_BOOK] = independent_book_bad(book);
     if (!left.holds[HOLDS_BOOK]) {
         left.holds[HOLDS_LENGTH] = length != book->regions * (book->services + (size_t)1) * book->window;
         left.holds[HOLDS_MARKET] = region >= book->regions || market > book->services;
@@ -141,7 +90,7 @@ struct independent_left independent_intervals_left(const guxhamole_book *book, c
     refuse(&left);
     left.elsewhere = left.number == 22 && !window_bad(book, ring, region, market);
     if (left.number == 0) {
-        size_t count = counted_prices(book, ring, region, market, prices);
+        size_t count = independent_counted(book, ring, region, market, prices);
         enter_copies(&left, prices, count, book->window, price, book->threshold);
     }
     return left;

@@ -101,7 +101,7 @@ static int same_bytes(const guxhamole_book *book, const guxhamole_book *before)
 static guxhamole_left ask(const char *what, const struct question *question, uint64_t from)
 {
     guxhamole_book before = question->book;
-    const int32_t *ring = (const int32_t *)paged_copy(question->ring, sizeof *ring * question->length);
+    const int32_t *ring = (const int32_t *)paged_copy(0, question->ring, sizeof *ring * question->length);
     asked = what;
     asked_from = from;
     struct independent_left want = independent_intervals_left(&question->book, question->ring, question->length, question->region,

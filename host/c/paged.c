@@ -10,8 +10,13 @@
 #include <sys/mman.h>
 #include <unistd.h>
 
-static uint8_t *room;   /* after the forbidden page, with another one behind it */
-static size_t room_size;
+struct room {
+    uint8_t *begin; /* after the forbidden page, with another one behind it */
+    size_t size;
+    int turn;
+};
+
+static struct room rooms[PAGED_ROOMS];
 
 static void no_pages(void)
 {
@@ -20,29 +25,29 @@ static void no_pages(void)
 }
 
 /* Whole pages for so many bytes, and one more on each side. */
-static void make_room(size_t size)
+static void make_room(struct room *room, size_t size)
 {
     size_t page = (size_t)sysconf(_SC_PAGESIZE);
-    if (room != NULL)
-        munmap(room - page, room_size + 2 * page);
-    room_size = (size / page + 1) * page;
-    void *pages = mmap(NULL, room_size + 2 * page, PROT_NONE, MAP_PRIVATE | MAP_ANONYMOUS, -1, 0);
+    if (room->begin != NULL)
+        munmap(room->begin - page, room->size + 2 * page);
+    room->size = (size / page + 1) * page;
+    void *pages = mmap(NULL, room->size + 2 * page, PROT_NONE, MAP_PRIVATE | MAP_ANONYMOUS, -1, 0);
     if (pages == MAP_FAILED)
         no_pages();
-    room = (uint8_t *)pages + page;
+    room->begin = (uint8_t *)pages + page;
 }
 
-const void *paged_copy(const void *bytes, size_t size)
+const void *paged_copy(int room_number, const void *bytes, size_t size)
 {
-    static int turn;
-    if (room == NULL || size > room_size)
-        make_room(size);
-    turn = !turn;
-    uint8_t *lent = turn ? room : room + room_size - size;
-    if (mprotect(room, room_size, PROT_READ | PROT_WRITE) != 0)
+    struct room *room = &rooms[room_number];
+    if (room->begin == NULL || size > room->size)
+        make_room(room, size);
+    room->turn = !room->turn;
+    uint8_t *lent = room->turn ? room->begin : room->begin + room->size - size;
+    if (mprotect(room->begin, room->size, PROT_READ | PROT_WRITE) != 0)
         no_pages();
     memcpy(lent, bytes, size);
-    if (mprotect(room, room_size, PROT_READ) != 0)
+    if (mprotect(room->begin, room->size, PROT_READ) != 0)
         no_pages();
     return lent;
 }

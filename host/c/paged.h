@@ -5,7 +5,11 @@
 
 #include <stddef.h>
 
-/* Lends a copy of `size` bytes, until the next lending. By turns it begins right after a forbidden page, or ends right before one. */
-const void *paged_copy(const void *bytes, size_t size);
+/* How many copies can be lent at a time, each in a room of its own. */
+enum { PAGED_ROOMS = 8 };
+
+/* Lends a copy of `size` bytes, until the next lending in the same room. By turns it begins right after a forbidden page, or ends right
+   before one. */
+const void *paged_copy(int room, const void *bytes, size_t size);
 
 #endif

@@ -1,0 +1,16 @@
+/* A lent book and ring in plain C, written from document 01 alone and sharing nothing with the proved code: whether rule 10 refuses the
+   book, and the prices that it counts in the ring, whoever put them there. */
+#ifndef INDEPENDENT_BOOK_H
+#define INDEPENDENT_BOOK_H
+
+#include "guxhamole.h"
+
+int independent_book_bad(const guxhamole_book *book);
+
+/* A sum's part of it. */
+int independent_sum_bad(int64_t sum);
+
+/* A market's counted prices into `prices`, oldest first; answers how many. The book must be one, and the ring of its length. */
+size_t independent_counted(const guxhamole_book *book, const int32_t *ring, unsigned region, unsigned market, int32_t *prices);
+
+#endif
