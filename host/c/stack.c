@@ -1,7 +1,7 @@
 /* Measures the stack that each function takes with the largest book (8 regions of 11 markets, W 2,016, H 48, windows full): each
    is called in a thread whose stack was painted before, and the lowest byte that is no longer paint tells. The caller's own frame,
-   with the book that it lends and the answer, is counted in. Entries are measured with links in a chain and in a star, power
-   either way, caps and floors that travel, marked and refused. Exit status 1 where one takes more than the header says. It is a
+   with the book that it lends and the answer, is counted in. Entries, and bills of two of them, are measured with links in a chain and
+   in a star, power either way, caps and floors that travel, marked and refused. Exit status 1 where one takes more than the header says. It is a
    measurement of these calls, on this machine, and no proof. */
 #define _POSIX_C_SOURCE 200809L
 
@@ -24,6 +24,10 @@ static int32_t numbers[PRICES + REGIONS + SCHEDULE], month[168 * HALVES];
 static uint32_t factors[REGIONS], room[REGIONS];
 static uint8_t marks[REGIONS], image[LONGEST], calls[38 + ENTRY_RECORD + 14 + 6], answers[14 + ENTRY_ANSWER + 34 + 14];
 static size_t image_length, calls_length;
+static uint8_t day[2 * GUXHAMOLE_INTERVAL(REGIONS, SERVICES)];
+static uint32_t line_numbers[3], line_energy[3];
+static int32_t line_prices[3];
+static int64_t line_amounts[3];
 static uint8_t kinds[28], records[GUXHAMOLE_INTERVAL(REGIONS, SERVICES)], later[sizeof records], read_marks[REGIONS];
 static guxhamole_settings settings;
 static guxhamole_book book;
@@ -74,6 +78,12 @@ static void use_synthetic(void)
     told = guxhamole_synthetic(book, 2026, 0, 0, table, PRICES, read_marks, REGIONS, numbers, REGIONS, room, REGIONS).number;
 }
 
+static void use_bill(void)
+{
+    told = guxhamole_bill(book, ring, RING, other, RING, day, sizeof day, schedule, SCHEDULE, 7, line_numbers, 3, line_energy, 3,
+                          line_prices, 3, line_amounts, 3).number;
+}
+
 static void use_replay(void)
 {
     told = guxhamole_replay(calls, calls_length, answers, sizeof answers, other, RING, ring, RING, image, LONGEST, numbers,
@@ -88,7 +98,7 @@ struct use {
 };
 
 static struct use enter = {"enter", use_enter, 0}, load = {"load", use_load, 0}, read_records = {"interval read", use_read, 0};
-static struct use rewrite = {"interval rewrite", use_rewrite, 0};
+static struct use rewrite = {"interval rewrite", use_rewrite, 0}, bill = {"bill", use_bill, 0};
 
 struct run {
     void (*call)(void);
@@ -185,6 +195,41 @@ static void measure_entries(int chain)
     expect(GUXHAMOLE_PRICE, &enter);
 }
 
+/* The entry twice, as records of a day. */
+static void fill_day(void)
+{
+    const size_t size = sizeof day / 2;
+    for (uint32_t i = 0; i < 2; i++)
+        guxhamole_interval_write(book, book.entries + i, 0, prices, PRICES, marks, REGIONS, flows, REGIONS, factors, REGIONS,
+                                 day + i * size, size);
+}
+
+static void expect_bill(uint64_t number)
+{
+    fill_day();
+    expect(number, &bill);
+}
+
+static void measure_bills(int chain)
+{
+    static const int32_t energies[] = {100000, -100000}, ways[] = {1, -1};
+    open_book(chain);
+    for (int i = 0; i < 4; i++) {
+        fill_entry(energies[i % 2], ways[i / 2]);
+        expect_bill(0);
+    }
+    marks[2] = 1;
+    expect_bill(0);
+    marks[2] = 0;
+    line_energy[2] = 1000000001;
+    expect_bill(GUXHAMOLE_BILLED_ENERGY);
+    line_energy[2] = 0;
+    prices[PRICES - 1] = -1;
+    expect_bill(GUXHAMOLE_PRICE);
+    day[0] = 0;
+    expect(GUXHAMOLE_RECORD_BROKEN, &bill);
+}
+
 /* What was written is read and rewritten; so is it in downward order, but not read; then the last region is given twice. */
 static void measure_reading(void)
 {
@@ -244,8 +289,11 @@ int main(void)
         kinds[day] = day % 7 > 4;
     measure_entries(0);
     measure_entries(1);
+    measure_bills(0);
+    measure_bills(1);
     expect(0, &load);
     within &= print(&enter, GUXHAMOLE_STACK);
+    within &= print(&bill, GUXHAMOLE_STACK);
     for (size_t i = 0; i < sizeof uses / sizeof *uses; i++) {
         expect(0, &uses[i]);
         within &= print(&uses[i], GUXHAMOLE_STACK);
