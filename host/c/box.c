@@ -1,7 +1,9 @@
 /* The foundry's box, an example to copy: `box IMAGE` keeps one book of the real market, reads lines (box_lines.h) from standard
    input and answers them on standard output. The command that builds it is in host/c/README.md. `box commission ..` plays a test
-   load on a book in memory instead (box_commission.h), and `box rewrite EARLIER LATER` puts the regions of a file of records in number
-   order (box_rewrite.h); an image of that name would have to be given as ./commission or ./rewrite.
+   load on a book in memory instead (box_commission.h), `box rewrite EARLIER LATER` puts the regions of a file of records in number
+   order (box_rewrite.h), and `box bill IMAGE RECORDS BILL REGION [SCHEDULE]` says whether a retailer's bill is what the records and the
+   book's rules make it, or which line is the first wrong one, and why (box_bill.h); an image of that name would have to be given as
+   ./commission, ./rewrite or ./bill.
 
    Each line is answered by one line that begins at its first column, details indented above it:
      accepted ..                    an interval, threshold or limits; the book with it is saved (box_files.h), safe from a crash
@@ -30,6 +32,8 @@
    A file that was refused at place P is mended and sent again from there; one of the earlier form, refused by 45, is mended by
    `box rewrite`. */
 #include "box_answers.h"
+#include "box_bill.h"
+#include "box_book.h"
 #include "box_commission.h"
 #include "box_files.h"
 #include "box_lines.h"
@@ -47,8 +51,7 @@
 struct box {
     guxhamole_book book;
     int32_t ring[RING];
-    int32_t schedule[SCHEDULE];
-    uint8_t given[PRICES * KINDS]; /* the schedule's rows that were given since the start */
+    struct box_schedule schedule;
     uint8_t image[IMAGE_MAX + 1];  /* one byte more, so that a longer file is seen to be longer */
     uint8_t records[RECORDS_MOST + 1];
     struct box_files files;
@@ -79,28 +82,18 @@ static void tell_prices(const struct line *line, const int32_t *table)
     }
 }
 
-/* After a start the schedule is zeros until its rows are given, and zeros would be published: a region can be marked once every
-   row of its own is there. */
-static int rows_lack(const struct box *box, const struct line *line)
-{
-    for (int row = 0; row < PRICES * KINDS; row++)
-        if (line->marks[row / (MARKETS * KINDS)] == 1 && !box->given[row])
-            return 1;
-    return 0;
-}
-
 /* Enters one interval, tells of it, saves and says `accepted`. Where that cannot be, answers 0, with the reason in `why` of
    REFUSAL_TEXT bytes, and has said nothing. */
 static int take_interval(struct box *box, const struct line *line, char *why)
 {
     int32_t table[PRICES] = {0};
-    if (rows_lack(box, line)) {
+    if (schedule_lacks(&box->schedule, line->marks)) {
         snprintf(why, REFUSAL_TEXT, "bad line: a marked region's schedule was not given");
         return 0;
     }
     guxhamole_entered entered = guxhamole_enter(box->book, box->ring, RING, line->number, line->kind, line->prices, PRICES,
                                                 line->marks, REGIONS, line->flows, REGIONS, line->factors, REGIONS,
-                                                box->schedule, SCHEDULE, table, PRICES);
+                                                box->schedule.prices, SCHEDULE, table, PRICES);
     if (entered.number != GUXHAMOLE_ACCEPTED) {
         refusal_text(entered.number, entered.place, why);
         return 0;
@@ -156,9 +149,7 @@ static void take_records(struct box *box, const struct line *line)
 
 static void take_row(struct box *box, const struct line *line)
 {
-    uint32_t row = (line->region * MARKETS + line->market) * KINDS + line->kind;
-    memcpy(box->schedule + row * HALVES, line->row, sizeof line->row);
-    box->given[row] = 1;
+    schedule_take(&box->schedule, line);
     answer("given schedule %" PRIu32 " %" PRIu32 " %d", line->region, line->market, line->kind);
 }
 
@@ -241,14 +232,6 @@ static int run(struct box *box)
     return ferror(stdin) ? BROKEN : ENDED;
 }
 
-/* Whether a loaded book is this market's: an image of another one may load as well. */
-static int same_market(const guxhamole_book *book)
-{
-    guxhamole_settings own = BOX_SETTINGS;
-    return book->regions == own.regions && book->services == own.services && book->window == own.window &&
-           book->halves == own.halves && memcmp(book->parents, own.parents, sizeof own.parents) == 0;
-}
-
 enum loading { LOADED, MISSING, UNUSABLE };
 
 static enum loading load(struct box *box, const char *path, const char *name)
@@ -307,22 +290,44 @@ static int start(struct box *box, const char *image)
     return 0;
 }
 
+/* What a box is asked for by its words. */
+enum asked { ASKED_NOTHING, ASKED_LINES, ASKED_COMMISSION, ASKED_REWRITE, ASKED_BILL };
+
+static enum asked asked_for(int count, char **words, struct commission *commission, struct bill_words *bill)
+{
+    const char *word = count > 1 ? words[1] : "";
+    if (strcmp(word, "commission") == 0)
+        return commission_parsed(count - 2, words + 2, commission) ? ASKED_COMMISSION : ASKED_NOTHING;
+    if (strcmp(word, "bill") == 0)
+        return bill_words_parsed(count - 2, words + 2, bill) ? ASKED_BILL : ASKED_NOTHING;
+    if (strcmp(word, "rewrite") == 0)
+        return count == 4 ? ASKED_REWRITE : ASKED_NOTHING;
+    return count == 2 ? ASKED_LINES : ASKED_NOTHING;
+}
+
 int main(int count, char **words)
 {
     static struct box box;
     struct commission commission;
-    int commissioned = count > 1 && strcmp(words[1], "commission") == 0, rewrites = count > 1 && strcmp(words[1], "rewrite") == 0;
-    if (commissioned ? !commission_parsed(count - 2, words + 2, &commission) : count != (rewrites ? 4 : 2)) {
-        fprintf(stderr, "usage: box IMAGE < lines, box commission SEED DAYS [THRESHOLD] or box rewrite EARLIER LATER\n");
+    struct bill_words bill;
+    enum asked asked = asked_for(count, words, &commission, &bill);
+    if (asked == ASKED_NOTHING) {
+        fprintf(stderr, "usage: box IMAGE < lines, box commission SEED DAYS [THRESHOLD], box rewrite EARLIER LATER or "
+                        "box bill IMAGE RECORDS BILL REGION [SCHEDULE]\n");
         return NOT_STARTED;
     }
     if (guxhamole_abi() != GUXHAMOLE_ABI) {
         answer("not started: another archive than the header's");
         return NOT_STARTED;
     }
-    if (commissioned)
+    switch (asked) {
+    case ASKED_COMMISSION:
         return commission_played(&commission);
-    if (rewrites)
+    case ASKED_REWRITE:
         return records_rewritten(words[2], words[3]);
-    return start(&box, words[1]) ? run(&box) : NOT_STARTED;
+    case ASKED_BILL:
+        return bill_checked(&bill);
+    default:
+        return start(&box, words[1]) ? run(&box) : NOT_STARTED;
+    }
 }

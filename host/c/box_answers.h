@@ -4,8 +4,8 @@
 
 #include "guxhamole.h"
 
-/* How a box ends: its exit status. */
-enum ending { ENDED = 0, NOT_STARTED = 1, BROKEN = 2 };
+/* How a box ends: its exit status. A bill that was checked is right, ENDED, or wrong. */
+enum ending { ENDED = 0, NOT_STARTED = 1, BROKEN = 2, WRONG_BILL = 3 };
 
 /* What a box has said is with its reader before it goes on; a box that cannot speak ends. */
 void flush(void);

@@ -33,13 +33,14 @@ static const char *meaning(uint32_t number)
     case GUXHAMOLE_PLANNED_PRICE: return "a price outside its market's entry range";
     case GUXHAMOLE_HUNDREDS: return "a threshold that is no multiple of 10,000 cents";
     case GUXHAMOLE_RECORD_ORDER: return "a record that isn't the next region's; for a file of the earlier form: box rewrite EARLIER LATER";
+    case GUXHAMOLE_BILLED_ENERGY: return "a line's kilowatt-hours above 1,000,000,000";
     default: return "unknown";
     }
 }
 
 void refusal_text(uint32_t number, uint64_t place, char *text)
 {
-    int placed = number == GUXHAMOLE_MARK || number == GUXHAMOLE_PRICE || number == GUXHAMOLE_FACTOR;
+    int placed = number == GUXHAMOLE_MARK || number == GUXHAMOLE_PRICE || number == GUXHAMOLE_FACTOR || number == GUXHAMOLE_BILLED_ENERGY;
     int length = snprintf(text, REFUSAL_TEXT, "refused %" PRIu32 " (%s)", number, meaning(number));
     if (placed && length > 0 && length < REFUSAL_TEXT)
         snprintf(text + length, (size_t)(REFUSAL_TEXT - length), " at %" PRIu64, place);
