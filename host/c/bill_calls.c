@@ -199,7 +199,7 @@ void bill_counts(int part)
     for (int kind = 0; kind < KINDS; kind++) {
         int part_begins = kind == WRONG_FIRST || kind == BY_10 || kind == LATER || kind == FORGED;
         printf("%s%s %ld", kind == 0 ? "" : part_begins ? "; " : ", ", kinds[kind].name, seen[kind]);
-        few |= seen[kind] < kinds[kind].least / part || seen[kind] == 0;
+        few |= seen[kind] < kinds[kind].least / (part > 1 ? 2 * part : 1) || seen[kind] == 0; /* in a part chance weighs more */
     }
     if (few) {
         printf("\nbill test: fewer of one than are wanted\n");

@@ -13,7 +13,7 @@
 #include <stdlib.h>
 #include <string.h>
 
-enum { BILLS = 20000, LINES = 4, ROOM = 1000 };
+enum { BILLS = 8000, LINES = 4, ROOM = 1000 };
 
 static char text[ROOM];
 static size_t length;

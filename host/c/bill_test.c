@@ -11,7 +11,7 @@
 #include <stdio.h>
 #include <stdlib.h>
 
-enum { DAYS = 3600, CHANGES = 6 };
+enum { DAYS = 3000, CHANGES = 6 };
 
 static struct bill_trial right, changed;
 

@@ -1,8 +1,8 @@
 /* Measures the stack that each function takes with the largest book (8 regions of 11 markets, W 2,016, H 48, windows full): each
    is called in a thread whose stack was painted before, and the lowest byte that is no longer paint tells. The caller's own frame,
    with the book that it lends and the answer, is counted in. Entries, and bills of two of them, are measured with links in a chain and
-   in a star, power either way, caps and floors that travel, marked and refused. Exit status 1 where one takes more than the header says. It is a
-   measurement of these calls, on this machine, and no proof. */
+   in a star, power either way, caps and floors that travel, marked and refused. Exit status 1 where one takes more than the header
+   says. It is a measurement of these calls, on this machine, and no proof. */
 #define _POSIX_C_SOURCE 200809L
 
 #include "guxhamole.h"
