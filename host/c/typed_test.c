@@ -113,6 +113,23 @@ static void images(void)
     }
 }
 
+/* A bill with nothing right: what it is refused by, or 0 where the second ring was changed. */
+static uint32_t bill_refusal(guxhamole_book book, const int32_t *ring, size_t places)
+{
+    static int32_t work[RING_MOST];
+    static const int64_t amounts[1] = {0};
+    static const uint32_t numbers[2] = {0};
+    static const uint8_t records[5] = {0};
+    int touched = 0;
+    for (size_t i = 0; i < RING_MOST; i++)
+        work[i] = 1234567;
+    guxhamole_billed billed = guxhamole_bill(book, ring, places, work, RING_MOST, records, sizeof records, ring, 3, 8, numbers, 2, numbers,
+                                             1, ring, 3, amounts, 1);
+    for (size_t i = 0; i < RING_MOST; i++)
+        touched |= work[i] != 1234567;
+    return touched || billed.place != 0 || billed.right != 0 || billed.line != 0 ? 0 : billed.number;
+}
+
 /* A book with an entry's slices of zeros, of which every call is made. */
 static uint32_t refusals_of(guxhamole_book book, int32_t *ring, size_t places)
 {
@@ -131,7 +148,7 @@ static uint32_t refusals_of(guxhamole_book book, int32_t *ring, size_t places)
     if (left.number != number || left.intervals != 0)
         return 0;
     guxhamole_found found = guxhamole_interval_read(book, image, sizeof image, 0, table, 88, marks, 8, flows, 8, factors, 8);
-    if (found.number != number ||
+    if (found.number != number || bill_refusal(book, ring, places) != number ||
         guxhamole_interval_write(book, 0, 0, zeros, 88, marks, 8, zeros, 8, factors, 8, image, sizeof image).number != number ||
         guxhamole_interval_rewrite(book, marks, 8, 0, image, sizeof image).number != number ||
         guxhamole_synthetic(book, 1, 0, 0, table, 88, marks, 8, flows, 8, factors, 8).number != number)
