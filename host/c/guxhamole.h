@@ -34,8 +34,8 @@
    Threads and signal handlers: the functions are reentrant, since they have no state. Any number of books may be in use at
    once; one book and its ring belong to one thread at a time.
 
-   Stack: measured, not proved. With the largest book a call took at most 8 KB, the replay 14 KB, the caller's frame with the lent
-   book and the answer counted in; host/c/stack.c measures it, and the gate holds it to the two bounds GUXHAMOLE_STACK. */
+   Stack: measured, not proved. With the largest book a call took at most 8 KB, the bill 11 KB and the replay 14 KB, the caller's frame
+   with the lent book and the answer counted in; host/c/stack.c measures it, and the gate holds it to the three bounds GUXHAMOLE_STACK. */
 #ifndef GUXHAMOLE_H
 #define GUXHAMOLE_H
 
@@ -51,8 +51,9 @@ extern "C" {
 #define GUXHAMOLE_ABI 1
 uint32_t guxhamole_abi(void);
 
-/* Bytes of stack that hold any call but the replay, and the replay. */
+/* Bytes of stack that hold any call but the bill and the replay, the bill, and the replay. */
 #define GUXHAMOLE_STACK 12288
+#define GUXHAMOLE_STACK_BILL 16384
 #define GUXHAMOLE_STACK_REPLAY 20480
 
 /* Lengths in elements, with R regions, S services (so S + 1 markets a region), a window of W prices and H half-hours a day. */

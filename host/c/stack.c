@@ -293,7 +293,7 @@ int main(void)
     measure_bills(1);
     expect(0, &load);
     within &= print(&enter, GUXHAMOLE_STACK);
-    within &= print(&bill, GUXHAMOLE_STACK);
+    within &= print(&bill, GUXHAMOLE_STACK_BILL);
     for (size_t i = 0; i < sizeof uses / sizeof *uses; i++) {
         expect(0, &uses[i]);
         within &= print(&uses[i], GUXHAMOLE_STACK);
@@ -311,6 +311,7 @@ int main(void)
     fill_calls();
     expect(sizeof answers, &replay);
     within &= print(&replay, GUXHAMOLE_STACK_REPLAY);
-    printf("bytes of stack, held to %d and %d for the replay\n", GUXHAMOLE_STACK, GUXHAMOLE_STACK_REPLAY);
+    printf("bytes of stack, held to %d, %d for the bill and %d for the replay\n", GUXHAMOLE_STACK, GUXHAMOLE_STACK_BILL,
+           GUXHAMOLE_STACK_REPLAY);
     return !within;
 }
