@@ -3,8 +3,9 @@
 //!
 //! Proved of each function, for all arguments: it ends, reads and writes only what it is lent, keeps no pointer and no state of
 //! its own, and its whole outcome is that of the definitions of document 01, and of document 02 for interval records
-//! ([`Book::read_interval`], [`Book::write_interval`], [`Book::rewrite_interval`]), for the intervals left ([`Book::intervals_left`])
-//! and for the test load ([`Book::synthetic`]). A refused call changes nothing.
+//! ([`Book::read_interval`], [`Book::write_interval`], [`Book::rewrite_interval`]), for the intervals left ([`Book::intervals_left`]),
+//! for the test load ([`Book::synthetic`]) and for a retailer's bill ([`Book::check_bill`]). A refused call changes nothing, but for the
+//! second ring of a bill, which is there to be worked in.
 //!
 //! # What the host must do
 //!
@@ -14,8 +15,8 @@
 //!
 //! - hands each call the book that the call before left: it keeps one [`Book`], from [`Book::open`] or [`Book::load`], and calls
 //!   its methods; it neither goes back to an older copy nor puts a book together from bytes or fields;
-//! - lends each entry, each store and each question for the intervals left the ring that the book was opened or loaded with, and
-//!   lets nothing but these calls write it;
+//! - lends each entry, each store, each question for the intervals left and each bill the ring that the book was opened or loaded
+//!   with, and lets nothing but these calls write it;
 //! - restarts by [`Book::store`] and, from exactly the image's bytes, [`Book::load`] into another ring, and goes on with the
 //!   book and ring that the load left.
 //!
@@ -63,6 +64,7 @@
 #[cfg(test)]
 extern crate std;
 
+mod bill;
 mod book;
 mod functions;
 mod interval;
@@ -73,6 +75,7 @@ mod synthetic;
 #[allow(unsafe_code)] // The one place: the C functions are called there and nowhere else.
 pub mod raw;
 
+pub use bill::{Judgement, Lines};
 pub use book::{Book, Entry, Report, Settings};
 pub use functions::{abi, amount_text, check, index, replay, schedule, Schedule, ABI};
 pub use interval::{Found, Interval, IntervalMut};

@@ -124,6 +124,17 @@ pub struct Left {
     pub intervals: u32,
 }
 
+/// The answer of a bill's check.
+#[repr(C)]
+#[derive(Clone, Copy, Debug, PartialEq, Eq)]
+#[allow(missing_docs)]
+pub struct Billed {
+    pub number: u32,
+    pub place: u64,
+    pub right: u32,
+    pub line: u64,
+}
+
 /// The answer of the schedule maker.
 #[repr(C)]
 #[derive(Clone, Copy, Debug, PartialEq, Eq)]
@@ -167,6 +178,9 @@ const _: () = {
     assert!(offset_of!(Drawn, seed) == 4 && offset_of!(Drawn, entry) == 8);
     assert!(offset_of!(Drawn, day_kind) == 12);
     assert!(size_of::<Left>() == 8 && offset_of!(Left, intervals) == 4);
+    assert!(size_of::<Billed>() == 32 && offset_of!(Billed, number) == 0);
+    assert!(offset_of!(Billed, place) == 8 && offset_of!(Billed, right) == 16);
+    assert!(offset_of!(Billed, line) == 24);
     assert!(size_of::<Rows>() == 400 && offset_of!(Rows, place) == 8);
     assert!(offset_of!(Rows, weekday) == 16 && offset_of!(Rows, weekend) == 208);
 };
@@ -193,7 +207,7 @@ impl Book {
 
 mod face {
     use super::{
-        Book, Drawn, Entered, Found, Kept, Left, Reading, Rewritten, Rows, Settings, Stored,
+        Billed, Book, Drawn, Entered, Found, Kept, Left, Reading, Rewritten, Rows, Settings, Stored,
     };
 
     extern "C" {
@@ -292,6 +306,26 @@ mod face {
             market: u32,
             price: i32,
         ) -> Left;
+        pub fn guxhamole_bill(
+            book: Book,
+            ring: *const i32,
+            ring_length: usize,
+            work: *mut i32,
+            work_length: usize,
+            records: *const u8,
+            records_length: usize,
+            schedule: *const i32,
+            schedule_length: usize,
+            region: u32,
+            numbers: *const u32,
+            numbers_length: usize,
+            energy: *const u32,
+            energy_length: usize,
+            prices: *const i32,
+            prices_length: usize,
+            amounts: *const i64,
+            amounts_length: usize,
+        ) -> Billed;
         pub fn guxhamole_schedule(
             halves: u8,
             cap: i32,
@@ -496,6 +530,42 @@ pub fn intervals_left(book: Book, ring: &[i32], region: u32, market: u32, price:
     let (places, length) = (ring.as_ptr(), ring.len());
     // SAFETY: the slices are as said above.
     unsafe { face::guxhamole_intervals_left(book, places, length, region, market, price) }
+}
+
+/// "once 10, 11 and 21 pass" the refusals "of the records and entries, taken interval by interval", then 46. The second ring is written
+/// from then on, after a refusal too.
+pub fn bill(
+    book: Book,
+    ring: &[i32],
+    work: &mut [i32],
+    records: &[u8],
+    schedule: &[i32],
+    region: u32,
+    lines: crate::Lines<'_>,
+) -> Billed {
+    // SAFETY: the slices are as said above; but for the second ring they are read alone, and may overlap each other.
+    unsafe {
+        face::guxhamole_bill(
+            book,
+            ring.as_ptr(),
+            ring.len(),
+            work.as_mut_ptr(),
+            work.len(),
+            records.as_ptr(),
+            records.len(),
+            schedule.as_ptr(),
+            schedule.len(),
+            region,
+            lines.numbers.as_ptr(),
+            lines.numbers.len(),
+            lines.energy.as_ptr(),
+            lines.energy.len(),
+            lines.prices.as_ptr(),
+            lines.prices.len(),
+            lines.amounts.as_ptr(),
+            lines.amounts.len(),
+        )
+    }
 }
 
 /// "Maker: 31 H or lengths; 32 kind not 0 or 1, or one kind missing; 19; 16 with place." 0 is a service, anything else energy.

@@ -38,7 +38,7 @@ pub enum Refusal {
     Limits,
     /// 20: a setting of the opening.
     Setting,
-    /// 21: the region or the market of a report, or of a question for the intervals left.
+    /// 21: the region or the market of a report, or of a question for the intervals left; a bill's region.
     Market,
     /// 22: a counted price of the ring is out of range, or a sum isn't the total of its prices.
     Sums,
@@ -74,6 +74,8 @@ pub enum Refusal {
     /// 45: a record that is read isn't the next region's. Records of the form before request 2026-08, in which regions stand in any order,
     /// are rewritten once by [`crate::Book::rewrite_interval`].
     RecordOrder,
+    /// 46: the kilowatt-hours of a bill's line are above 1,000,000,000; the line.
+    BilledEnergy(usize),
     /// A number that this crate doesn't know: the archive is a later one ([`crate::abi`]).
     Other(u32),
 }
@@ -111,6 +113,7 @@ impl Refusal {
             43 => Refusal::PlannedPrice,
             44 => Refusal::Hundreds,
             45 => Refusal::RecordOrder,
+            46 => Refusal::BilledEnergy(place),
             _ => Refusal::Other(number),
         }
     }
@@ -128,10 +131,11 @@ impl Refusal {
         self.described().0
     }
 
-    /// The place in the lent slice, where the refusal names one.
+    /// The place in the lent slice, where the refusal names one; of 15 to 17 of a bill the place within their own entry.
     pub fn place(self) -> Option<usize> {
         match self {
             Refusal::Mark(place) | Refusal::Price(place) | Refusal::Factor(place) => Some(place),
+            Refusal::BilledEnergy(line) => Some(line),
             _ => None,
         }
     }
@@ -173,6 +177,7 @@ impl Refusal {
             Refusal::PlannedPrice => (43, "a price asked about, out of its market's range"),
             Refusal::Hundreds => (44, "a threshold that is no multiple of 10,000 cents"),
             Refusal::RecordOrder => (45, "a region's record that isn't the next region's"),
+            Refusal::BilledEnergy(_) => (46, "a line's kilowatt-hours above 1,000,000,000"),
             Refusal::Other(number) => (number, "a refusal of a later archive"),
         }
     }
@@ -200,9 +205,9 @@ mod tests {
         for number in (1..=100).chain([u32::MAX]) {
             let refusal = Refusal::new(number, 7);
             assert_eq!(refusal.number(), number);
-            let placed = (15..=17).contains(&number);
+            let placed = (15..=17).contains(&number) || number == 46;
             assert_eq!(refusal.place(), placed.then_some(7));
-            let known = [10..=27, 30..=33, 40..=45];
+            let known = [10..=27, 30..=33, 40..=46];
             let known = known.iter().any(|numbers| numbers.contains(&number));
             assert_eq!(refusal == Refusal::Other(number), !known);
         }
