@@ -121,6 +121,33 @@ impl<'a> Front<'a> {
     }
 }
 
+/// The interval at a place of the records, and the place after it: "per record 40, 41", 45.
+pub(crate) fn interval_at(
+    shape: &Shape,
+    records: &[u8],
+    at: usize,
+) -> Result<(Interval, usize), Refusal> {
+    let mut front = Front::at(records, at);
+    let mut body = front.due(HEAD, shape.markets())?;
+    let (number, kind) = (u32::from_le_bytes(body.field()), body.byte());
+    // "or a region total in the head, that doesn't belong there"
+    unless(usize::from(body.byte()) == shape.regions, 41)?;
+    // "Region records now follow their head as 0, 1 and so on."
+    let mut bodies = Vec::new();
+    for next in 0..shape.regions {
+        let mut body = front.due(REGION, shape.markets())?;
+        // "45: a region record that isn't the next region"
+        unless(usize::from(body.byte()) == next, 45)?;
+        bodies.push(body);
+    }
+    let interval = Interval {
+        number,
+        kind,
+        ..in_order(bodies, shape.markets())
+    };
+    Ok((interval, records.len() - front.rest.len()))
+}
+
 impl Book {
     /// "given a book and a place, a call reads one and answers the place after it". What it reads takes the place of what is
     /// lent. "10, 11 … come first; per record 40, 41", and 45, which "in the reader … takes the place of 42".
@@ -133,25 +160,9 @@ impl Book {
         self.sound()?;
         let shape = self.shape();
         unless(lent.fits(&shape), 11)?;
-        let mut front = Front::at(records, at);
-        let mut body = front.due(HEAD, shape.markets())?;
-        let (number, kind) = (u32::from_le_bytes(body.field()), body.byte());
-        // "or a region total in the head, that doesn't belong there"
-        unless(usize::from(body.byte()) == shape.regions, 41)?;
-        // "Region records now follow their head as 0, 1 and so on."
-        let mut bodies = Vec::new();
-        for next in 0..shape.regions {
-            let mut body = front.due(REGION, shape.markets())?;
-            // "45: a region record that isn't the next region"
-            unless(usize::from(body.byte()) == next, 45)?;
-            bodies.push(body);
-        }
-        *lent = Interval {
-            number,
-            kind,
-            ..in_order(bodies, shape.markets())
-        };
-        Ok(records.len() - front.rest.len())
+        let (interval, next) = interval_at(&shape, records, at)?;
+        *lent = interval;
+        Ok(next)
     }
 
     /// "our writer goes upward, from the buffer's start": the interval's length. "10, 11 and the writer's 23".

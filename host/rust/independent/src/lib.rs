@@ -2,10 +2,11 @@
 //! definition and no code with the proved book: the ledger keeps the whole history and recomputes every sum, count,
 //! position and period from it, and limits go over every route one by one. Beside it stand a cache of what it recomputes,
 //! for windows of thousands of prices, and the book as a host keeps it, with its ring; and document 02's interval records,
-//! with the earlier form and its rewriter, intervals left, thresholds in whole hundreds, and test load.
+//! with the earlier form and its rewriter, intervals left, thresholds in whole hundreds, test load, and a retailer's bill.
 //! Quotations are document 01's unless a file says otherwise.
 
 pub mod amount;
+pub mod bill;
 pub mod book;
 mod cache;
 pub mod calls;
