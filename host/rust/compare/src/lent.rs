@@ -34,6 +34,14 @@ impl Fill for u32 {
     }
 }
 
+impl Fill for i64 {
+    const FILL: i64 = 0x5A5A_5A5A_5A5A_5A5A;
+
+    fn of_word(word: u64) -> i64 {
+        word as i64
+    }
+}
+
 /// Where a host takes the memory that it lends to be written: filled as guards are, or with any contents, from a seed.
 #[derive(Clone, Debug)]
 pub struct Memory {

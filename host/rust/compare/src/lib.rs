@@ -1,5 +1,6 @@
 //! What the comparisons share.
 
+pub mod bills;
 pub mod books;
 pub mod cutting;
 pub mod forms;

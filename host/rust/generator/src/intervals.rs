@@ -7,7 +7,7 @@ use crate::random::Random;
 use independent::book::Book;
 use independent::image::Fields;
 use independent::interval::Interval;
-use independent::rules::NO_PARENT;
+use independent::rules::{Shape, NO_PARENT};
 
 /// A reading: the slices lent to it hold what they hold before.
 #[derive(Clone, Debug, PartialEq, Eq)]
@@ -113,6 +113,18 @@ pub fn interval(random: &mut Random, book: &Book) -> Interval {
     }
 }
 
+/// Slices of a shape's lengths, full of zeros.
+pub fn fitting(shape: &Shape) -> Interval {
+    Interval {
+        number: 0,
+        kind: 0,
+        prices: vec![0; shape.prices()],
+        marks: vec![0; shape.regions],
+        flows: vec![0; shape.regions],
+        factors: vec![0; shape.regions],
+    }
+}
+
 /// The records of an interval, its regions in an order.
 pub fn records(interval: &Interval, markets: usize, order: &[usize]) -> Vec<u8> {
     let mut bytes = vec![HEAD as u8, 0, 0, 0, 16, 0];
@@ -162,7 +174,7 @@ fn starts(book: &Book, at: usize) -> Vec<usize> {
 const MENU: [u8; 13] = [0, 1, 2, 5, 6, 11, 12, 13, 16, 17, 18, 20, 255];
 
 /// One damage to the records about the interval at a place.
-fn damage(random: &mut Random, book: &Book, at: usize, bytes: &mut Vec<u8>) {
+pub(crate) fn damage(random: &mut Random, book: &Book, at: usize, bytes: &mut Vec<u8>) {
     if bytes.is_empty() {
         return;
     }

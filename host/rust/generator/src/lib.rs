@@ -1,6 +1,7 @@
 //! Seeded, bounded lists of calls, their records, images, interval records, draws of a test load, questions for the intervals left,
-//! calls of the schedule maker and index arguments for the differential test.
+//! bills, calls of the schedule maker and index arguments for the differential test.
 
+pub mod bills;
 pub mod calls;
 pub mod draws;
 pub mod images;
