@@ -217,7 +217,7 @@ impl Book {
 
     /// "a sum beyond ±20,160,000,000, an unused sum .. or mark not zero". Bits are gathered over whole rows rather than markets
     /// tested one by one: a sum is beyond its bound where one of the two differences has its sign bit set.
-    fn markets_valid(&self) -> bool {
+    pub(crate) fn markets_valid(&self) -> bool {
         let (regions, markets) = (usize::from(self.regions), self.markets());
         let (mut most, mut wrong) = ([0; MARKETS], [u8::MAX; MARKETS]);
         most[..markets].fill(MOST_SUM);

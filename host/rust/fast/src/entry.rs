@@ -30,6 +30,17 @@ impl Book {
     ) -> Result<u32, Refusal> {
         unless(self.valid(), 10)?;
         unless(self.lengths_right(ring.len(), entry, table.len()), 11)?;
+        self.enter_lent(ring, entry, table)
+    }
+
+    /// An entry on a valid book, all of whose slices have their lengths: from 12 on.
+    #[inline]
+    pub(crate) fn enter_lent(
+        &mut self,
+        ring: &mut [i32],
+        entry: &Entry,
+        table: &mut [i32],
+    ) -> Result<u32, Refusal> {
         unless(self.entries < MOST_ENTRIES, 12)?;
         unless(entry.number == self.entries, 13)?;
         unless(entry.kind <= 1, 14)?;

@@ -78,6 +78,17 @@ impl Book {
             interval.factors.len(),
         ];
         unless(self.slices_right(interval.prices.len(), lent), 11)?;
+        self.read_lent(records, at, interval)
+    }
+
+    /// A reading by a valid book into slices that have their lengths: from 40 on.
+    #[inline]
+    pub(crate) fn read_lent(
+        &self,
+        records: &[u8],
+        at: usize,
+        interval: IntervalMut,
+    ) -> Result<Found, Refusal> {
         let (length, size) = (self.interval_length(), self.region_length());
         let bytes = records.get(at..).unwrap_or_default();
         let whole = bytes.get(..length).unwrap_or_default();
