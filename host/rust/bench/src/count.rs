@@ -1,8 +1,9 @@
 //! Calls to be counted by instructions rather than timed: `bench count proved|fast` and, where it is not the real market's free
-//! entry, the words `small`, `administered`, `report`, `store`, `load`, `question`, `schedule`, `draw` of the test load, or `read`,
-//! `write`, `rewrite-upward` and `rewrite-shuffled` of interval records. Under callgrind's `--toggle-collect='*count::counted*'` the
-//! calls themselves are counted, on a book whose window is full.
+//! entry, the words `small`, `administered`, `report`, `store`, `load`, `question`, `schedule`, `draw` of the test load, `bill` of a day
+//! or the `day` entered alone, ten times each, or `read`, `write`, `rewrite-upward` and `rewrite-shuffled` of interval records. Under
+//! callgrind's `--toggle-collect='*count::counted*'` the calls themselves are counted, on a book whose window is full.
 
+use crate::bills::{self, Billing};
 use crate::intervals::{self, Day, Recorded, Room};
 use crate::lists::{Market, Trade, Trading};
 use crate::loads::{self, Drawing, Load};
@@ -20,8 +21,13 @@ const SCHEDULE: &str = "schedule";
 /// An interval of the test load drawn.
 const DRAW: &str = "draw";
 
-/// How many calls are counted.
+/// A day's bill checked, and the day entered alone.
+const BILL: &str = "bill";
+const ENTERED: &str = "day";
+
+/// How many calls are counted, and how many days.
 const TIMES: usize = 1_000;
+const DAYS: usize = 10;
 
 /// What is counted.
 struct Counting {
@@ -40,7 +46,7 @@ pub fn run(real: &Market, small: &Market, words: &[&str]) -> Option<()> {
     };
     for &word in words {
         let records = intervals::CALLS.map(|(name, _)| name);
-        let others = [QUESTION, SCHEDULE, DRAW];
+        let others = [QUESTION, SCHEDULE, DRAW, BILL, ENTERED];
         let mut known = CALLS.into_iter().chain(others).chain(records);
         match word {
             "small" => counting.market = *small,
@@ -58,17 +64,26 @@ pub fn run(real: &Market, small: &Market, words: &[&str]) -> Option<()> {
         trade,
         call,
     } = counting;
-    println!("{player}, {market}, {trade}: {call}, {TIMES} times");
+    let times = match call {
+        BILL | ENTERED => DAYS,
+        _ => TIMES,
+    };
+    println!("{player}, {market}, {trade}: {call}, {times} times");
     Some(())
 }
 
 impl Counting {
-    fn play<B: Typed + Recorded + Maker + Drawing>(&self) {
+    fn play<B: Typed + Billing + Maker + Drawing>(&self) {
         match self.call {
             SCHEDULE => return counted_schedules::<B>(&Weeks::new(self.market.halves)),
             DRAW => {
                 let load = Load::new(self.market.regions, self.market.services);
                 return counted_draws::<B>(&mut load.host());
+            }
+            BILL | ENTERED => {
+                let day = bills::Day::new(&self.market, self.trade);
+                let start = day.start::<B>();
+                return counted_days(&day, &start, &mut day.room(), self.call);
             }
             _ => {}
         }
@@ -115,6 +130,23 @@ fn counted_schedules<M: Maker>(weeks: &Weeks) {
 #[inline(never)]
 fn counted_draws<B: Drawing>(host: &mut loads::Host<B>) {
     repeated(|| host.draw());
+}
+
+#[inline(never)]
+fn counted_days<B: Billing>(
+    day: &bills::Day,
+    start: &bills::Start<B>,
+    room: &mut bills::Room,
+    call: &str,
+) {
+    for _ in 0..DAYS {
+        if call == BILL {
+            black_box(day.bill(start, room));
+        } else {
+            room.work.copy_from_slice(&start.ring);
+            black_box(day.enter(start.book.clone(), room));
+        }
+    }
 }
 
 fn repeated<A>(mut call: impl FnMut() -> A) {

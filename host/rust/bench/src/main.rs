@@ -1,9 +1,10 @@
 //! Measures the proved functions beside the hand-written ones: the typed calls over the same slices, interval records, the test load,
-//! questions for the intervals left, the schedule maker, then the replay on the same bytes, entries, restarts, and whether an entry's
-//! cost grows with the window or with the history. The one argument is the number of rounds; `intervals` leaves all but the interval
-//! records out, `loads` all but the test load, `questions` all but the questions, `schedules` all but the schedule maker, and
-//! `count ..` makes calls to be counted by instructions. docs/PERFORMANCE.md says how to read the tables.
+//! questions for the intervals left, bills, the schedule maker, then the replay on the same bytes, entries, restarts, and whether an
+//! entry's cost grows with the window or with the history. The one argument is the number of rounds; `intervals` leaves all but the
+//! interval records out, `loads` all but the test load, `questions` all but the questions, `bills` all but the bills, `schedules` all but
+//! the schedule maker, and `count ..` makes calls to be counted by instructions. docs/PERFORMANCE.md says how to read the tables.
 
+mod bills;
 mod clock;
 mod count;
 mod intervals;
@@ -57,6 +58,8 @@ fn main() {
         ["loads", rounds] => some_rounds(rounds, test_load),
         ["questions"] => some_rounds("", intervals_left),
         ["questions", rounds] => some_rounds(rounds, intervals_left),
+        ["bills"] => some_rounds("", retail_bills),
+        ["bills", rounds] => some_rounds(rounds, retail_bills),
         ["schedules"] => some_rounds("", schedule_maker),
         ["schedules", rounds] => some_rounds(rounds, schedule_maker),
         [] => some_rounds("", all_tables),
@@ -64,8 +67,8 @@ fn main() {
         _ => None,
     };
     if done.is_none() {
-        eprintln!("bench [intervals|loads|questions|schedules] [ROUNDS]");
-        eprintln!("bench count proved|fast [small] [administered] [report|store|load|question|schedule|draw]");
+        eprintln!("bench [intervals|loads|questions|bills|schedules] [ROUNDS]");
+        eprintln!("bench count proved|fast [small] [administered] [report|store|load|question|schedule|draw|bill|day]");
         eprintln!("bench count proved|fast [small] [read|write|rewrite-upward|rewrite-shuffled]");
         std::process::exit(2);
     }
@@ -87,6 +90,7 @@ fn all_tables(rounds: usize) {
     interval_records(rounds);
     test_load(rounds);
     intervals_left(rounds);
+    retail_bills(rounds);
     schedule_maker(rounds);
     steady(rounds);
     history(rounds);
@@ -166,6 +170,27 @@ fn intervals_left(rounds: usize) {
     for (market, costs) in &rows {
         let step = questions::step_over_store(market, costs);
         tables::two_row(&market.to_string(), &step);
+    }
+}
+
+/// A day's bill checked, beside the same day read and entered alone.
+fn retail_bills(rounds: usize) {
+    let mut rows = Vec::new();
+    for market in [REAL, SMALL] {
+        for trade in [Trade::Free, Trade::Administered] {
+            let costs = bills::measure(&market, trade, rounds);
+            rows.push((format!("{market}, {trade}"), costs));
+        }
+    }
+    for (place, call) in bills::CALLS.iter().enumerate() {
+        tables::head(&format!("a day of 288 intervals {call}, window full"));
+        for (name, costs) in &rows {
+            tables::row(name, &costs[place]);
+        }
+    }
+    tables::two_head("a day billed over the same day entered alone");
+    for (name, [billed, entered]) in &rows {
+        tables::over_row(name, billed, entered);
     }
 }
 

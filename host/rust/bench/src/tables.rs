@@ -63,3 +63,19 @@ pub fn rate_row(name: &str, bytes: usize, costs: &Costs) {
     let (proved, fast) = (both(&costs.proved), both(&costs.fast));
     println!("{name:<52}{proved:>22}{fast:>22}");
 }
+
+/// How many times as much one takes as another.
+pub fn over_row(name: &str, one: &Costs, other: &Costs) {
+    let times = |one: &Cost, other: &Cost| {
+        format!(
+            "{:.2} ({:.2})",
+            one.median / other.median,
+            one.least / other.least
+        )
+    };
+    let (proved, fast) = (
+        times(&one.proved, &other.proved),
+        times(&one.fast, &other.fast),
+    );
+    println!("{name:<52}{proved:>22}{fast:>22}");
+}

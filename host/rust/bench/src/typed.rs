@@ -167,6 +167,11 @@ impl<B: Typed> Host<B> {
         changed
     }
 
+    /// The book and its ring.
+    pub fn kept(&self) -> (&B, &[i32]) {
+        (&self.book, &self.ring)
+    }
+
     /// A report of a region's energy.
     pub fn report(&self, region: u32) -> (i64, u32, u32, u32) {
         self.report_of(region, 0)

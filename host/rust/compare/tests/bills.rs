@@ -4,7 +4,7 @@
 use compare::bills::{check, check_listed, first_refusals, Answer};
 use compare::typed::paper;
 use compare::{books, rounds, say};
-use generator::bills::{self, right_length, set_length, Checking, Day, Kept, CHANGES};
+use generator::bills::{self, right_length, set_length, Change, Checking, Day, Kept, CHANGES};
 use generator::weeks::Weeks;
 use generator::{calls, intervals, Random};
 use guxhamole::raw;
@@ -18,7 +18,7 @@ use std::collections::BTreeMap;
 #[derive(Default)]
 struct Met {
     kinds: BTreeMap<&'static str, u64>,
-    changes: BTreeMap<&'static str, (u64, u64)>,
+    changes: BTreeMap<Change, (u64, u64)>,
 }
 
 /// An answer's kind: of a wrong line where it stands, and whether it is a missing or a surplus one.
@@ -149,11 +149,11 @@ fn generated() {
     met.say("generated");
     met.at_least(&LEAST);
     for change in CHANGES {
-        let (made, wrong) = met.changes[change];
-        assert!(made >= 1_500, "{change}: made {made} times");
-        let right = ["nothing", "most kilowatt-hours", "too many kilowatt-hours"];
+        let (made, wrong) = met.changes[&change];
+        assert!(made >= 1_500, "{change:?}: made {made} times");
+        let right = [Change::Nothing, Change::MostEnergy, Change::TooMuchEnergy];
         let told = right.contains(&change) || wrong >= 400;
-        assert!(told, "{change}: wrong {wrong} times");
+        assert!(told, "{change:?}: wrong {wrong} times");
     }
 }
 

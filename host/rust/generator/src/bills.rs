@@ -244,68 +244,88 @@ fn energy(random: &mut Random, price: i32) -> u32 {
     }
 }
 
-/// One thing of a bill's lines changed; some changes leave it right.
-pub const CHANGES: [&str; 15] = [
-    "nothing",
-    "a number",
-    "kilowatt-hours",
-    "a price",
-    "an amount",
-    "a line dropped",
-    "a line added",
-    "a surplus line",
-    "two lines exchanged",
-    "most kilowatt-hours",
-    "too many kilowatt-hours",
-    "an entry price",
-    "another region's price",
-    "rounded down",
-    "half to even",
-];
-
-/// A value one more or one less.
-fn beside(random: &mut Random) -> i64 {
-    random.pick(&[-1, 1])
+/// What of a bill's lines is changed; some changes leave it right.
+#[derive(Clone, Copy, Debug, PartialEq, Eq, PartialOrd, Ord)]
+pub enum Change {
+    Nothing,
+    Number,
+    Energy,
+    Price,
+    Amount,
+    Dropped,
+    Added,
+    Surplus,
+    Exchanged,
+    MostEnergy,
+    TooMuchEnergy,
+    EntryPrice,
+    OtherRegion,
+    RoundedDown,
+    HalfToEven,
 }
 
-/// Makes one of the changes, by name, at any line; none where the bill has no line for it.
-fn change(random: &mut Random, checking: &mut Checking, what: &str) {
+pub const CHANGES: [Change; 15] = [
+    Change::Nothing,
+    Change::Number,
+    Change::Energy,
+    Change::Price,
+    Change::Amount,
+    Change::Dropped,
+    Change::Added,
+    Change::Surplus,
+    Change::Exchanged,
+    Change::MostEnergy,
+    Change::TooMuchEnergy,
+    Change::EntryPrice,
+    Change::OtherRegion,
+    Change::RoundedDown,
+    Change::HalfToEven,
+];
+
+/// A value one more or one less, seldom one that differs in its upper half alone.
+fn beside(random: &mut Random, upper: i64) -> i64 {
+    random.pick(&[-1, 1, -1, 1, -1, 1, upper, -upper])
+}
+
+/// Makes one of the changes at any line; a bill without lines only gets one.
+fn change(random: &mut Random, checking: &mut Checking, what: Change) {
     let count = checking.bill.lines.numbers.len();
-    if count == 0 {
-        if what == "a line added" || what == "a surplus line" {
-            add(random, &mut checking.bill.lines, 0);
-        }
-        return;
-    }
     let line = match random.below(4) {
         0 => 0,
-        1 => count - 1,
-        _ => random.below(count),
+        1 => count.saturating_sub(1),
+        _ => random.below(count.max(1)),
     };
-    let other = random.below(count);
+    let other = random.below(count.max(1));
     let lines = &mut checking.bill.lines;
     match what {
-        "nothing" => {}
-        "a number" => {
-            lines.numbers[line] = (i64::from(lines.numbers[line]) + beside(random)) as u32
+        Change::Added => add(random, lines, line),
+        Change::Surplus => add(random, lines, count),
+        _ if count == 0 => {}
+        Change::Nothing => {}
+        Change::Number | Change::Energy | Change::Price | Change::Amount => {
+            put_beside(random, lines, line, what)
         }
-        "kilowatt-hours" => {
-            lines.energy[line] = lines.energy[line].wrapping_add(beside(random) as u32)
-        }
-        "a price" => lines.prices[line] += beside(random) as i32,
-        "an amount" => lines.amounts[line] += beside(random),
-        "a line dropped" => lines.each(|slice| slice.remove(line)),
-        "a line added" => add(random, lines, line),
-        "a surplus line" => add(random, lines, count),
-        "two lines exchanged" => lines.each(|slice| slice.swap(line, other)),
-        "most kilowatt-hours" => set_energy(lines, line, MOST_ENERGY),
-        "too many kilowatt-hours" => {
+        Change::Dropped => lines.each(|slice| slice.remove(line)),
+        Change::Exchanged => lines.each(|slice| slice.swap(line, other)),
+        Change::MostEnergy => set_energy(lines, line, MOST_ENERGY),
+        Change::TooMuchEnergy => {
             let wild = MOST_ENERGY + random.between(1, 3_000_000_000) as u32;
             let many = random.pick(&[MOST_ENERGY + 1, u32::MAX, 1 << 31, wild]);
             set_energy(lines, line, many);
         }
-        "an entry price" | "another region's price" => other_price(random, checking, line, what),
-        _ => round_otherwise(lines, line, what),
+        Change::EntryPrice | Change::OtherRegion => other_price(random, checking, line, what),
+        Change::RoundedDown | Change::HalfToEven => round_otherwise(lines, line, what),
+    }
+}
+
+/// One field of a line, a little off.
+fn put_beside(random: &mut Random, lines: &mut Lines, line: usize, what: Change) {
+    let by = beside(random, 1 << 16);
+    match what {
+        Change::Number => lines.numbers[line] = lines.numbers[line].wrapping_add(by as u32),
+        Change::Energy => lines.energy[line] = lines.energy[line].wrapping_add(by as u32),
+        Change::Price => lines.prices[line] += by as i32,
+        _ => lines.amounts[line] += beside(random, 1 << 32),
     }
 }
 
@@ -359,15 +379,15 @@ fn set_energy(lines: &mut Lines, line: usize, energy: u32) {
 
 /// The price that was entered, or that another region's entry publishes, mostly with the amount that it comes to: at the first line from a
 /// place on where it is another one.
-fn other_price(random: &mut Random, checking: &mut Checking, line: usize, what: &str) {
+fn other_price(random: &mut Random, checking: &mut Checking, line: usize, what: Change) {
     let played = published(checking);
     let markets = usize::from(checking.book.services) + 1;
     let region = match what {
-        "an entry price" => checking.bill.region as usize,
+        Change::EntryPrice => checking.bill.region as usize,
         _ => random.below(checking.book.regions.into()),
     };
     let price = |(interval, table): &(Interval, Vec<i32>)| match what {
-        "an entry price" => interval.prices[region * markets],
+        Change::EntryPrice => interval.prices[region * markets],
         _ => table[region * markets],
     };
     let lines = &mut checking.bill.lines;
@@ -381,12 +401,12 @@ fn other_price(random: &mut Random, checking: &mut Checking, line: usize, what: 
 }
 
 /// An amount rounded down, or half to even: at the first line from a place on where that makes another one.
-fn round_otherwise(lines: &mut Lines, line: usize, what: &str) {
+fn round_otherwise(lines: &mut Lines, line: usize, what: Change) {
     let rounded = |line: usize| {
         let product = i64::from(lines.energy[line]) * i64::from(lines.prices[line]);
         let (below, rest) = (product.div_euclid(1_000), product.rem_euclid(1_000));
         match what {
-            "rounded down" => below,
+            Change::RoundedDown => below,
             _ if rest == 500 => below + (below & 1),
             _ => below + i64::from(rest > 500),
         }
@@ -399,7 +419,7 @@ fn round_otherwise(lines: &mut Lines, line: usize, what: &str) {
 
 /// A check of a bill for any region over the day, and what of its lines was changed last: the records are damaged in three of ten, then the
 /// lines made right for what is accepted of them, and changed; lengths, region and book are wrong in some.
-pub fn checking(random: &mut Random, day: &Day) -> (Checking, &'static str) {
+pub fn checking(random: &mut Random, day: &Day) -> (Checking, Change) {
     let region = random.below(day.kept.book.regions.into());
     let mut checking = day.without_lines(random, region);
     match random.below(20) {
@@ -411,7 +431,7 @@ pub fn checking(random: &mut Random, day: &Day) -> (Checking, &'static str) {
         forge(random, &mut checking);
     }
     checking.bill.lines = right_lines(random, &checking);
-    let mut what = "nothing";
+    let mut what = Change::Nothing;
     for _ in 0..random.pick(&[0, 0, 1, 1, 1, 1, 2, 3]) {
         what = random.pick(&CHANGES);
         change(random, &mut checking, what);
@@ -447,7 +467,7 @@ fn spoilt(random: &mut Random, day: &Day) -> Vec<u8> {
             random.below(interval.prices.len()),
         );
         match random.below(9) {
-            0 => interval.number = interval.number.wrapping_add(beside(random) as u32),
+            0 => interval.number = interval.number.wrapping_add(beside(random, 256) as u32),
             1 => interval.kind = random.pick(&[2, 3, 255]),
             2 | 3 => interval.marks[region] = random.pick(&[2, 3, 255]),
             4 => interval.prices[price] = random.pick(&[10_000_001, i32::MAX]),
