@@ -142,7 +142,8 @@ pub fn try_check(checking: &Checking) -> Result<(Answer, Option<Entered>), Diffe
     Ok((expected, Some(entered)))
 }
 
-fn judgement(told: guxhamole::Judgement) -> Judgement {
+/// A compiled judgement as the independent ones say theirs.
+pub fn judgement(told: guxhamole::Judgement) -> Judgement {
     match told {
         guxhamole::Judgement::Right => Judgement::Right,
         guxhamole::Judgement::Wrong(line) => Judgement::Wrong(line),

@@ -3,12 +3,14 @@
 
 use compare::playing::{Playing, Start};
 use compare::typed::{paper, Pair};
-use compare::{books, intervals, left, rewriting, rounds, say, synthetic};
+use compare::{bills, books, intervals, left, rewriting, rounds, say, synthetic};
+use generator::bills::Checking;
 use generator::draws::Drawing;
 use generator::intervals::{rewriting_into, Reading, Writing};
 use generator::questions::Question;
 use generator::{calls, images, Random};
 use guxhamole::{raw, Book};
+use independent::bill::{Bill, Lines};
 use independent::book::FAULTS;
 use independent::image::Fields;
 use independent::interval::Interval;
@@ -69,6 +71,7 @@ impl Met {
         }
         self.interval(book);
         self.draw(book);
+        self.bill(book, ring);
         let number = self.question(book, ring);
         let fault = paper(book).fault();
         assert_eq!(number == 10, fault.is_some(), "{book:?}: {fault:?}");
@@ -127,6 +130,31 @@ impl Met {
         let answer = synthetic::draw(&drawing);
         let number = answer.map_or_else(|refusal| refusal.number, |_| 0);
         let fault = drawing.book.fault();
+        assert_eq!(number, if fault.is_some() { 10 } else { 0 }, "{fault:?}");
+        self.calls += 1;
+        *self.answers.entry(number).or_default() += 1;
+    }
+
+    /// A bill of no lines for a day of no intervals by a book of any fields: yes, or 10 exactly where rule 10 says so.
+    fn bill(&mut self, book: &raw::Book, ring: &[i32]) {
+        let Call::Entry(entry, ..) = entry(book, ring.len()) else {
+            unreachable!("an entry")
+        };
+        let checking = Checking {
+            book: paper(book),
+            ring: ring.to_vec(),
+            work: vec![7; ring.len()],
+            bill: Bill {
+                records: Vec::new(),
+                schedule: entry.schedule,
+                region: book.regions.wrapping_sub(1).into(),
+                lines: Lines::default(),
+            },
+            listed: false,
+        };
+        let answer = bills::check(&checking);
+        let number = answer.map_or_else(|refusal| refusal.number, |_| 0);
+        let fault = checking.book.fault();
         assert_eq!(number, if fault.is_some() { 10 } else { 0 }, "{fault:?}");
         self.calls += 1;
         *self.answers.entry(number).or_default() += 1;

@@ -2,6 +2,7 @@
 //! records, and what the compiled functions do with them is held to `independent`. Every lent slice ends at a page that nobody
 //! may touch, or begins after one, so that a read past it is noticed too.
 
+mod bills;
 mod bytes;
 mod images;
 mod intervals;

@@ -53,6 +53,11 @@ unsafe impl Element for u32 {
     const FILL: u32 = 0x5A5A_5A5A;
 }
 
+// SAFETY: integers.
+unsafe impl Element for i64 {
+    const FILL: i64 = 0x5A5A_5A5A_5A5A_5A5A;
+}
+
 /// The memory, `LENGTH` bytes from `start` on.
 pub struct Pages {
     start: NonNull<u8>,

@@ -1,5 +1,5 @@
 //! Bytes as a book, its ring and calls on them through the crate `guxhamole`, beside the independent book. Most arguments
-//! are the bytes' difference from a valid one, so that zeros are accepted.
+//! are the bytes' difference from a valid one, so that zeros are accepted. `bills` has the bills.
 
 use crate::bytes::Bytes;
 use crate::pages::Pages;
@@ -18,10 +18,10 @@ use independent::{Opening, Refusal, Report};
 const MOST_CALLS: usize = 12;
 
 /// The compiled book, the independent one, and the ring that both have.
-struct Kept {
-    book: Book,
-    paper: Paper,
-    ring: Vec<i32>,
+pub(crate) struct Kept {
+    pub(crate) book: Book,
+    pub(crate) paper: Paper,
+    pub(crate) ring: Vec<i32>,
 }
 
 pub fn run(room: &mut [Pages], data: &[u8]) -> Met {
@@ -35,7 +35,7 @@ pub fn run(room: &mut [Pages], data: &[u8]) -> Met {
         if bytes.is_empty() {
             break;
         }
-        let (name, number) = match bytes.byte() % 15 {
+        let (name, number) = match bytes.byte() % 18 {
             0..=4 => ("entry", kept.enter(room, &mut bytes, at_end)),
             5 => ("threshold", kept.set_threshold(&mut bytes)),
             6 => ("limits", kept.set_limits(&mut bytes)),
@@ -44,6 +44,7 @@ pub fn run(room: &mut [Pages], data: &[u8]) -> Met {
             10 => ("schedule", schedule(room, &mut bytes, at_end)),
             11 => ("text and index", text_and_index(room, &mut bytes, at_end)),
             12 => ("draw", kept.draw(room, &mut bytes, at_end)),
+            13..=15 => kept.bill(room, &mut bytes, at_end),
             _ => ("intervals left", kept.ask(room, &mut bytes, at_end)),
         };
         assert_eq!(paper(kept.book.raw()), kept.paper, "book after {name}");
@@ -58,7 +59,7 @@ fn number<T>(result: &Result<T, Refusal>) -> u32 {
 }
 
 /// Regions, prices, ring and schedule of a book of any fields, as long as a book can have them.
-fn lengths(book: &raw::Book) -> (usize, usize, usize, usize) {
+pub(crate) fn lengths(book: &raw::Book) -> (usize, usize, usize, usize) {
     let regions = usize::from(book.regions.min(8));
     let prices = regions * (usize::from(book.services.min(10)) + 1);
     let window = usize::from(book.window.min(2_016));
@@ -72,7 +73,7 @@ fn limits(bytes: &mut Bytes) -> (i32, i32) {
 }
 
 /// A small number, or any by bytes from 128 on.
-fn small(bytes: &mut Bytes) -> u32 {
+pub(crate) fn small(bytes: &mut Bytes) -> u32 {
     match bytes.byte() {
         few @ 0..=127 => few.into(),
         _ => bytes.u32(),
@@ -80,7 +81,7 @@ fn small(bytes: &mut Bytes) -> u32 {
 }
 
 /// A few numbers from the bytes, which repeat up to a length; none is a zero.
-fn numbers(bytes: &mut Bytes, length: usize) -> Vec<i32> {
+pub(crate) fn numbers(bytes: &mut Bytes, length: usize) -> Vec<i32> {
     let few: Vec<i32> = (0..bytes.byte() % 64).map(|_| bytes.i32()).collect();
     if few.is_empty() {
         vec![0; length]

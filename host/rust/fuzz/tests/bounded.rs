@@ -94,9 +94,59 @@ fn typed(random: &mut Random) -> Vec<u8> {
     input
 }
 
+/// A bill's bytes: a right one for a day of a few intervals, but for what differs now and then.
+fn bill_call(random: &mut Random, input: &mut Vec<u8>) {
+    let intervals = random.below(4) as u8;
+    input.extend([13, random.pick(&[0, 0, 0, 0, 0, 1, 7, 255]), intervals]);
+    for _ in 0..intervals {
+        input.extend([0, random.pick(&[0, 0, 0, 1, 1, 2])]);
+        few(random, input, &[100_000, 70_001, -500, 7, 7, 10_000_001]);
+        few(random, input, &[0, 0, 1, 1, 2]);
+        few(random, input, &[1, -1]);
+        few(random, input, &[0, 0, 1_000, 1 << 16]);
+    }
+    if intervals > 0 {
+        // A byte of the records: a kind, the region total, a region, a mark, or any.
+        let any = random.below(60) as u8;
+        let place = random.pick(&[4, 11, 16, 16, 18, 18, 19, any]);
+        input.extend([place, 0, random.pick(&[0, 0, 0, 0, 1, 64])]);
+    } else {
+        input.extend([0, 0]);
+    }
+    input.push(random.pick(&[0, 0, 0, 0, 0, 0, 0, 3]));
+    input.extend([0, 0]);
+    for _ in 0..intervals {
+        match random.below(6) {
+            0 => input.extend([128, 1, 202, 154, 59]), // 1,000,000,001
+            _ => input.push(random.below(128) as u8),
+        }
+        let wrong = random.chance(15).into();
+        let mut rest = [0; 3];
+        rest[random.below(3)] = wrong;
+        input.extend(rest);
+    }
+    let length = random.pick(&[0, 0, 0, 0, 128, 192]);
+    input.extend([length; 4]);
+    input.extend([0, 0]);
+}
+
+/// One number that repeats, or mostly none.
+fn few(random: &mut Random, input: &mut Vec<u8>, menu: &[i32]) {
+    match random.chance(50) {
+        true => input.push(0),
+        false => {
+            input.push(1);
+            input.extend(random.pick(menu).to_le_bytes());
+        }
+    }
+}
+
 /// One call's bytes: its kind, then numbers that are small, wild or none.
 fn any_call(random: &mut Random, input: &mut Vec<u8>) {
-    input.push(random.below(15) as u8);
+    if random.chance(15) {
+        return bill_call(random, input);
+    }
+    input.push(random.below(18) as u8);
     for _ in 0..random.below(60) {
         input.push(match random.below(8) {
             0 => random.word() as u8,
@@ -186,7 +236,7 @@ fn bounded() {
 
 /// The answers that a run over all inputs must have met.
 fn all_met(met: &BTreeMap<(&'static str, u32), u64>) {
-    let expected: [(&str, &[u32]); 16] = [
+    let expected: [(&str, &[u32]); 18] = [
         ("check", &[0]),
         ("load", &[0]),
         ("opening", &[0, 18, 44]),
@@ -200,6 +250,8 @@ fn all_met(met: &BTreeMap<(&'static str, u32), u64>) {
         ("text and index", &[0]),
         ("intervals left", &[0, 10, 11, 21, 22, 43]),
         ("draw", &[0, 10, 11]),
+        ("bill", &[0, 10, 11, 13, 14, 15, 16, 17, 21, 40, 41, 45, 46]),
+        ("wrong bill", &[0]),
         ("read", &[0, 10, 11, 40, 41, 45]),
         ("rewrite", &[0, 10, 23, 40, 41, 42]),
         ("write", &[0, 10, 11, 23]),
