@@ -45,11 +45,11 @@ fn plain(number: u32, prices: &[i32]) -> Interval {
     }
 }
 
-/// The records of intervals of energy alone, end to end.
+/// The records of intervals, end to end.
 fn bytes(intervals: &[Interval]) -> Vec<u8> {
     let each = intervals.iter().map(|interval| {
         let upward: Vec<usize> = (0..interval.marks.len()).collect();
-        records(interval, 1, &upward)
+        records(interval, interval.prices.len() / upward.len(), &upward)
     });
     each.collect::<Vec<_>>().concat()
 }
@@ -312,6 +312,28 @@ fn places() {
     assert_eq!(said(Some(&two()), &checking), (Refused(45, 0), vec![0, 0]));
 }
 
+/// Two regions with a service each: a bill is of energy, and places count all markets.
+#[test]
+fn services() {
+    let opening = books::opening(2, 1, 1, 1);
+    let both = |number: u32, prices: [i32; 4]| Interval {
+        prices: prices.to_vec(),
+        ..plain(number, &[0, 0])
+    };
+    let first = both(0, [10, 20, 100_000, 30]);
+    let right = [(0, 1_000, 100_000, 100_000), (1, 1_000, 60_000, 60_000)];
+    let day = bytes(&[first.clone(), both(1, [40, 50, 70_000, 60])]);
+    let mut checking = opened(&opening, day, &right);
+    checking.bill.region = 1;
+    let ring = vec![40, 50, 70_000, 60];
+    assert_eq!(said(Some(&opening), &checking), (Yes, ring.clone()));
+    checking.bill.region = 0;
+    assert_eq!(said(Some(&opening), &checking), (Wrong(0), ring));
+    checking.bill.records = bytes(&[first, both(1, [40, 50, 70_000, -1])]);
+    let ring = vec![10, 20, 100_000, 30];
+    assert_eq!(said(Some(&opening), &checking), (Refused(16, 3), ring));
+}
+
 #[test]
 fn half_away_from_zero() {
     let records = bytes(&[plain(0, &[-500]), plain(1, &[500])]);
@@ -380,6 +402,8 @@ fn lengths() {
     for (place, change) in changes.into_iter().enumerate() {
         assert_eq!(changed(change), stays(11), "change {place}");
     }
+    let both = changed(|checking| (checking.ring, checking.work) = (vec![0; 2], vec![7; 2]));
+    assert_eq!(both, (Refused(11, 0), vec![7; 2]));
     let longer = changed(|checking| checking.work = vec![7, 8]);
     assert_eq!(longer, (Refused(11, 0), vec![7, 8]));
     let none = changed(|checking| checking.work.clear());
@@ -428,6 +452,10 @@ fn a_sum_beyond_its_bound() {
         checking.bill.records = [&alone, behind].concat();
         assert_eq!(said(None, &checking), (Refused(10, 0), vec![10_000_000]));
     }
+    let upper = (checking.book.sums[0], checking.ring.clone());
+    (checking.book.sums[0], checking.ring) = (-20_160_000_000, vec![i32::MAX]);
+    assert_eq!(said(None, &checking), (Refused(10, 0), vec![10_000_000]));
+    (checking.book.sums[0], checking.ring) = upper;
     // 46 comes behind it, and comes where it doesn't.
     checking.bill.lines.energy = vec![u32::MAX];
     assert_eq!(said(None, &checking), (Refused(10, 0), vec![10_000_000]));

@@ -29,7 +29,7 @@ impl Book {
     /// Holds a bill for a region against the day's records, from their first byte to their last, and one schedule. Every interval is read
     /// and entered, as [`Book::read_interval`] and [`Book::enter`] would, on a copy of the book and of its ring: `work`, of the ring's
     /// length, becomes that copy once 10, 11 and 21 pass, and holds what the entries made of it, after a refusal too. Then 46, for any
-    /// line. 10, 11, 21; 40, 41, 45 and 12 to 17 interval by interval; 46.
+    /// line. 10, 11, 21; 40, 41, 45 and 12 to 17 interval by interval, and 10 there over a ring that others changed; 46.
     ///
     /// A day of two intervals, the second one capped:
     ///
