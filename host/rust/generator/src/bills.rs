@@ -324,7 +324,7 @@ fn put_beside(random: &mut Random, lines: &mut Lines, line: usize, what: Change)
     match what {
         Change::Number => lines.numbers[line] = lines.numbers[line].wrapping_add(by as u32),
         Change::Energy => lines.energy[line] = lines.energy[line].wrapping_add(by as u32),
-        Change::Price => lines.prices[line] += by as i32,
+        Change::Price => lines.prices[line] = lines.prices[line].wrapping_add(by as i32),
         _ => lines.amounts[line] += beside(random, 1 << 32),
     }
 }
