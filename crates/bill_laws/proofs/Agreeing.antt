@@ -66,8 +66,7 @@ module _ (l : Lines) (shown : List Shown) (i : ℕ) where
 
   pub agrees-is : agrees l shown i ≡ true → (i < length (l .numbers)) × (i < length shown) × LineIs l i (shownAt shown i)
   agrees-is e =
-      let b = and-left (has-line && has-interval) (rightAt l i (shownAt shown i)) e in
-      (
+      let b = and-left (has-line && has-interval) (rightAt l i (shownAt shown i)) e in (
         ltb-true _ _ (and-left has-line has-interval b),
         ltb-true _ _ (and-right has-line has-interval b),
         right-is l i (shownAt shown i) (and-right (has-line && has-interval) (rightAt l i (shownAt shown i)) e),

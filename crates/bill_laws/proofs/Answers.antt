@@ -82,11 +82,11 @@ module _ (b : Book) (ring work : List ℤ) (bill : Bill) where
   bill-yes e =
       let p = passed (right-accepted e) in
       let w : wrong ≡ false = by-test wrong
-          (λ t. let q : billed b ring work bill ≡ no = all (p .0) (p .1) (p .2) ∙ (rw t refl) in absurd (zero-one (ap (λ (o : Outcome). o .right) (sym q) ∙ e)))
-          (λ t. t) in
+      (λ t. let q : billed b ring work bill ≡ no = all (p .0) (p .1) (p .2) ∙ (rw t refl) in absurd (zero-one (ap (λ (o : Outcome). o .right) (sym q) ∙ e)))
+      (λ t. t) in
       let k : howLong l (d .shown) ≤ firstWrong l (d .shown) = ltb-false _ _ w in
       let agree : (i : ℕ) → i < howLong l (d .shown) → agrees l (d .shown) i ≡ true = λ i h.
-          not-false (agrees l (d .shown) i) (firstOf-passed (howLong l (d .shown)) (λ j. not (agrees l (d .shown) j)) i (omega arith)) in
+      not-false (agrees l (d .shown) i) (firstOf-passed (howLong l (d .shown)) (λ j. not (agrees l (d .shown) j)) i (omega arith)) in
       record {
         lent = lent-accepted b (lengthsOf ring work bill) (bill .region) (p .0);
         played = day-accepted b ring bill (p .1);
@@ -116,8 +116,8 @@ module _ (b : Book) (ring work : List ℤ) (bill : Bill) where
   yes-bill y =
       let light : heavy ≡ false = le-ltb (firstHeavy (l .energy)) (length (l .energy)) (omega (arith, firstOf-none (length (l .energy)) (λ i. not (leb (getD (l .energy) i 0) mostEnergy)) (λ i h. ap not (le-leb _ _ (y .range i h))))) in
       let none : firstWrong l (d .shown) ≡ howLong l (d .shown) =
-          firstOf-none (howLong l (d .shown)) (λ i. not (agrees l (d .shown) i))
-          (λ i h. ap not (is-agrees l (d .shown) i (omega (arith, y .count)) (omega (arith, y .count)) (y .lines i (omega (arith, y .count))))) in
+      firstOf-none (howLong l (d .shown)) (λ i. not (agrees l (d .shown) i))
+      (λ i h. ap not (is-agrees l (d .shown) i (omega (arith, y .count)) (omega (arith, y .count)) (y .lines i (omega (arith, y .count))))) in
       all (rw (y .lent) refl) (rw (y .played) refl) light ∙ (rw (le-ltb (firstWrong l (d .shown)) (howLong l (d .shown)) (omega (arith, none))) refl)
 
   -- "Otherwise give the first wrong line"

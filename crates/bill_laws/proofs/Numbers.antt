@@ -130,14 +130,16 @@ module _ (b : Book) (ring : List ℤ) (records : List ℕ) (at : ℕ) (schedule 
   entry-sized e =
       by-test (isAccepted (Reading.readVerdict b (Taking.blank b) records at))
       (λ t.
-      rw (t,
-          eq-eqb _ _ (f .ring-size),
-          eq-eqb _ _ (length-run (Reading.priceFrom M records (at + headLength) (λ r. r)) n 0),
-          eq-eqb _ _ (length-run (Reading.markFrom M records (at + headLength) (λ r. r)) (b .regions) 0),
-          eq-eqb _ _ (length-run (Reading.flowFrom M records (at + headLength) (λ r. r)) (b .regions) 0),
-          eq-eqb _ _ (length-run (Reading.factorFrom M records (at + headLength) (λ r. r)) (b .regions) 0),
-          eq-eqb _ _ (f .schedule-size),
-          eq-eqb _ _ (length-replicate n (pos 0)))
+      rw (
+        t,
+        eq-eqb _ _ (f .ring-size),
+        eq-eqb _ _ (length-run (Reading.priceFrom M records (at + headLength) (λ r. r)) n 0),
+        eq-eqb _ _ (length-run (Reading.markFrom M records (at + headLength) (λ r. r)) (b .regions) 0),
+        eq-eqb _ _ (length-run (Reading.flowFrom M records (at + headLength) (λ r. r)) (b .regions) 0),
+        eq-eqb _ _ (length-run (Reading.factorFrom M records (at + headLength) (λ r. r)) (b .regions) 0),
+        eq-eqb _ _ (f .schedule-size),
+        eq-eqb _ _ (length-replicate n (pos 0)),
+      )
       refl)
       (λ t. never _ (rw t at e) t)
 
@@ -180,11 +182,11 @@ module _ (bill : Bill) where
       let p = both x y b (s .ring) (bill .records) (s .at) (bill .schedule) (bill .region) t in
       let k = taken-is x y b (s .ring) (bill .records) (s .at) (bill .schedule) (bill .region) t in
       let e = entered-is b (s .ring) (read b (s .ring) (bill .records) (s .at) (bill .schedule) (bill .region) f .interval .number)
-          (entry b (s .ring) (bill .records) (s .at) (bill .schedule) (bill .region) f) y (p .1) in
+      (entry b (s .ring) (bill .records) (s .at) (bill .schedule) (bill .region) f) y (p .1) in
       let r : takenHere bill s .ring ≡ ringAfter b (s .ring) (entry b (s .ring) (bill .records) (s .at) (bill .schedule) (bill .region) f .offer) =
-          ap (λ (o : Taking.Outcome). o .ring) (p .2) ∙ ap (λ (o : Entering.Outcome). o .ring) (e .1) in
+      ap (λ (o : Taking.Outcome). o .ring) (p .2) ∙ ap (λ (o : Entering.Outcome). o .ring) (e .1) in
       let l : length (takenHere bill s .ring) ≡ length (s .ring) =
-          ap length r ∙ ring-length b (s .ring) (entry b (s .ring) (bill .records) (s .at) (bill .schedule) (bill .region) f .offer) in
+      ap length r ∙ ring-length b (s .ring) (entry b (s .ring) (bill .records) (s .at) (bill .schedule) (bill .region) f .offer) in
       record {
         ring-size = l ∙ f .ring-size ∙ (λ i. ringSize (sym (k .regions) i) (sym (k .services) i) (sym (k .window) i));
         schedule-size = f .schedule-size ∙ (λ i. tableSize (sym (k .regions) i) (sym (k .services) i) * 2 * sym (k .halves) i);
@@ -214,7 +216,7 @@ module _ (bill : Bill) where
       let f = fits-of s h in
       let p = both (Taking.blank b) (Taking.blankTable b) b (s .ring) (bill .records) (s .at) (bill .schedule) (bill .region) t in
       let k = entered-kept b (s .ring) (read b (s .ring) (bill .records) (s .at) (bill .schedule) (bill .region) f .interval .number)
-          (entry b (s .ring) (bill .records) (s .at) (bill .schedule) (bill .region) f) (Taking.blankTable b) (h .kept .prices) (p .1) in
+      (entry b (s .ring) (bill .records) (s .at) (bill .schedule) (bill .region) f) (Taking.blankTable b) (h .kept .prices) (p .1) in
       record {
         kept = subst (λ (o : Taking.Outcome). Kept (o .book) (o .ring)) (sym (p .2)) k;
         schedule-size = fits-after s f t .schedule-size;

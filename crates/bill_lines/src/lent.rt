@@ -34,8 +34,7 @@ pub fn lent_verdict(book: Book, lengths: Lengths, region: u32) -> Answer
         & (lengths.schedule == schedule)
         & (lengths.energy == lengths.numbers)
         & (lengths.prices == lengths.numbers)
-        & (lengths.amounts == lengths.numbers))
-    {
+        & (lengths.amounts == lengths.numbers)) {
         return Answer::Refused(Refusal::Length);
     }
     if !(region < book.regions as u32) {

@@ -19,9 +19,7 @@ pub(crate) fn line_right(
     ensures { λ r. ⌜ r ≡ lineRight said used asked charged (shownAs number price) ⌝ }
 {
     let due = rounded(used as i64 * price as i64, 1000);
-    (said == number)
-        & ((asked <= price) & (price <= asked))
-        & ((charged <= due) & (due <= charged))
+    (said == number) & ((asked <= price) & (price <= asked)) & ((charged <= due) & (due <= charged))
 }
 
 // Whether line `i` is there, in range, and right.

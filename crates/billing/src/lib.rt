@@ -88,7 +88,14 @@ fn play_day(
                 price,
             } => {
                 right = leads_to(
-                    numbers, energy, prices, amounts, right, count, number, price,
+                    numbers,
+                    energy,
+                    prices,
+                    amounts,
+                    right,
+                    count,
+                    number,
+                    price,
                 );
                 count += 1;
                 at = next;

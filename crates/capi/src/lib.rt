@@ -252,7 +252,16 @@ pub extern "C" fn guxhamole_bill(
         ≡ billed book (now (ring .entry)) (now (work .entry)) (billOf (now (records .entry)) (now (schedule .entry)) region lines)) ⌝ }
 {
     let checked = check_bill(
-        book, ring, work, records, schedule, region, numbers, energy, prices, amounts,
+        book,
+        ring,
+        work,
+        records,
+        schedule,
+        region,
+        numbers,
+        energy,
+        prices,
+        amounts,
     );
     let judgement = checked.judgement;
     billed_of(judgement)

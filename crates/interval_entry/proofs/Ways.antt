@@ -95,8 +95,8 @@ energy-in r R M h m = omega (arith, mul-le-mul-right M h, suc-mul r M)
 pub blank-is : (b : Book) (ring : List ℤ) (records : List ℕ) (at : ℕ) (schedule : List ℤ) (region : ℕ) (o : Outcome) → b .regions ≤ 8
     → tableSize (b .regions) (b .services) ≤ 88
     → (let n = tableSize (b .regions) (b .services) in
-      let lent = intervalOf 0 0 (take n (replicate 88 (pos 0))) (take (b .regions) (replicate 8 0)) (take (b .regions) (replicate 8 (pos 0))) (take (b .regions) (replicate 8 0)) in
-      o ≡ takenInto lent (take n (replicate 88 (pos 0))) b ring records at schedule region)
+    let lent = intervalOf 0 0 (take n (replicate 88 (pos 0))) (take (b .regions) (replicate 8 0)) (take (b .regions) (replicate 8 (pos 0))) (take (b .regions) (replicate 8 0)) in
+    o ≡ takenInto lent (take n (replicate 88 (pos 0))) b ring records at schedule region)
     → o ≡ taken b ring records at schedule region
 blank-is b ring records at schedule region o h k e =
     let R = b .regions in

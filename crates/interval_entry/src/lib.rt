@@ -14,7 +14,11 @@ ghost use Rattle.interval_entry.specs.Taking.{takenInto, taken, outcome}
 
 // The place after the interval with its number and a region's published energy price, or the first refusal.
 pub enum Step {
-    Gone { next: usize, number: u32, price: i32 },
+    Gone {
+        next: usize,
+        number: u32,
+        price: i32,
+    },
     Stopped(Refusal),
 }
 
@@ -51,7 +55,16 @@ fn take_into(
         },
         Found::At { next, number, kind } => {
             let entered = enter(
-                book, ring, number, kind, prices, marked, flows, factors, schedule, table,
+                book,
+                ring,
+                number,
+                kind,
+                prices,
+                marked,
+                flows,
+                factors,
+                schedule,
+                table,
             );
             let publication = entered.publication;
             let after = entered.book;

@@ -42,12 +42,12 @@ fn at(place: usize) {
     number(place as u64);
 }
 
-// A refusal's number, and its place for 15, 16 and 17, which have one.
+// A refusal's number, and its place for 15, 16, 17 and 46, which have one.
 pub fn refusal(r: Refusal) {
     let n = book::record::number(r);
     say(b" refused");
     number(n as u64);
-    if (15 <= n) & (n <= 17) {
+    if ((15 <= n) & (n <= 17)) | (n == 46) {
         at(book::record::place(r));
     }
 }

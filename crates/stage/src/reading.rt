@@ -185,6 +185,25 @@ pub fn signed_numbers(text: &[u8], at: usize, list: &mut [i32]) -> usize
     k
 }
 
+// The same in cents.
+pub fn amounts(text: &[u8], at: usize, list: &mut [i64]) -> usize
+    ensures { λ n. ⌜ n ≤ length (now (list .exit)) ⌝ }
+    ensures { λ n. ⌜ n ≡ length (take n (now (list .exit))) ⌝ }
+{
+    let mut k: usize = 0;
+    let mut i = at;
+    while k < list.len() {
+        let t = next_number(text, i);
+        if !t.found {
+            return k;
+        }
+        list[k] = cents(t.minus, t.value);
+        i = t.end;
+        k += 1;
+    }
+    k
+}
+
 // The same as bytes.
 pub fn bytes(text: &[u8], at: usize, list: &mut [u8]) -> usize
     ensures { λ n. ⌜ n ≤ length (now (list .exit)) ⌝ }

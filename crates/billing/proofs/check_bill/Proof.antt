@@ -74,7 +74,7 @@ returns-2 c =
     let a = s .args in
     let work : k .copy .last .1 .0 ≡ a .ring .now = k .copy .ensures in
     let day : toldIn (p .play-day .result) (p .play-day .last .1 .0) ≡ told (bill s .lines) (dayOf (a .book) (a .ring .now) (bill s)) =
-        p .play-day .ensures ∙ ap (λ (l : List ℤ). told (bill s .lines) (dayOf (a .book) l (bill s))) work in
+    p .play-day .ensures ∙ ap (λ (l : List ℤ). told (bill s .lines) (dayOf (a .book) l (bill s))) work in
     billed-judged (a .book) (a .ring .now) (a .work .now) (bill s) (v .lent-verdict .result) (v .lent-verdict .ensures) (t .enum-told .given .1)
     (p .play-day .result) _ (c .judgement-of .result) day (c .judgement-of .ensures)
 

@@ -99,8 +99,7 @@ loop-again : tie.Need-loop-again Inv-loop μ-loop
 loop-again c =
     let t = called c in
     let l = head t .loop in
-    let r = t .take-interval in
-    (
+    let r = t .take-interval in (
       again (l .inv .0) (omega arith) (r .result) _ (r .ensures) _ _ _ (c .before .before .step2 .given .1) _ (counted c),
       r .kept .1 .0 ∙ l .inv .1,
     )

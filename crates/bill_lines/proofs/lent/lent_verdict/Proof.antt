@@ -121,8 +121,8 @@ returns-2 c =
     let a = start e .args in
     let r = asked (c .before) in
     let l : lengthsOk (a .book) (a .lengths) ≡ false =
-        sym (compared-is (a .book) (a .lengths) (r .ring-size .result) (r .ring-size .ensures))
-        ∙ not-true (compared (a .book) (a .lengths) (r .ring-size .result)) (c .if2 .taken) in
+    sym (compared-is (a .book) (a .lengths) (r .ring-size .result) (r .ring-size .ensures))
+    ∙ not-true (compared (a .book) (a .lengths) (r .ring-size .result)) (c .if2 .taken) in
     lent-11 (a .book) (a .lengths) (a .region) (good e) l
 
 cast-if3 : tie.Need-cast-if3
