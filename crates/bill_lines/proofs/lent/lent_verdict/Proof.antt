@@ -6,13 +6,13 @@ use native.Mathlib.Nat.{mul-le-mul}
 use native.Mathlib.Omega.{arith}
 use borrow.Author.Tests.{not-true, not-false}
 use lib.Dec.{ltb, eqb}
-use Rattle.pricing.specs.Verdict.{accepted, refused}
 use Rattle.book.specs.declared.record.Book.{Book}
 use Rattle.book.specs.Record.{marketsOf, tableSize, ringSize}
 use Rattle.book.specs.Validity.{valid}
 use Rattle.book.proofs.Validities.{valid-is}
 use Rattle.bill_lines.specs.declared.lent.Lengths.{Lengths}
-use Rattle.bill_lines.specs.Lent.{lengthsOk, lentVerdict}
+use Rattle.bill_lines.specs.Lent.{lengthsOk}
+use Rattle.bill_lines.proofs.Lents.{lent-10, lent-11, lent-21, lent-0}
 use borrow.Author.Needs.{needs}
 use Rattle.bill_lines.proofs.lent.lent_verdict.Statement.{statement}
 use Rattle.bill_lines.proofs.lent.lent_verdict.Tie as tie
@@ -29,25 +29,6 @@ compared b n ring =
 
 compared-is : (b : Book) (n : Lengths) (ring : ℕ) → ring ≡ ringSize (b .regions) (b .services) (b .window) → compared b n ring ≡ lengthsOk b n
 compared-is b n ring e = ap (compared b n) e
-
-module _ (b : Book) (n : Lengths) (region : ℕ) where
-  lent-10 : valid b ≡ false → refused 10 ≡ lentVerdict b n region
-  unfolding lentVerdict
-  lent-10 v = rw v refl
-
-  module _ (v : valid b ≡ true) where
-    lent-11 : lengthsOk b n ≡ false → refused 11 ≡ lentVerdict b n region
-    unfolding lentVerdict
-    lent-11 l = rw (v, l) refl
-
-    module _ (l : lengthsOk b n ≡ true) where
-      lent-21 : ltb region (b .regions) ≡ false → refused 21 ≡ lentVerdict b n region
-      unfolding lentVerdict
-      lent-21 r = rw (v, l, r) refl
-
-      lent-0 : ltb region (b .regions) ≡ true → accepted ≡ lentVerdict b n region
-      unfolding lentVerdict
-      lent-0 r = rw (v, l, r) refl
 
 abbrev start : tie.Else1 → tie.Start
 start c = c .before .before
@@ -133,14 +114,14 @@ returns-3 c =
     let d = c .before .before in
     let e = told (d .before) in
     let a = start e .args in
-    lent-21 (a .book) (a .lengths) (a .region) (good e) (equal d) (not-true _ (c .if3 .taken))
+    lent-21 (a .book) (a .lengths) (a .region) (good e) (equal d) (not-true (ltb (a .region) (a .book .regions)) (c .if3 .taken))
 
 returns-4 : tie.Need-returns-4
 returns-4 c =
     let d = c .before .before in
     let e = told (d .before) in
     let a = start e .args in
-    lent-0 (a .book) (a .lengths) (a .region) (good e) (equal d) (not-false _ (c .if3 .left))
+    lent-0 (a .book) (a .lengths) (a .region) (good e) (equal d) (not-false (ltb (a .region) (a .book .regions)) (c .if3 .left))
 
 pub lent-verdict-spec : {M : Type 1} → statement M
 lent-verdict-spec =
