@@ -1,6 +1,6 @@
 -- The loop over a day's intervals: what is had at its head, what an interval makes of it, and what is had in the end. Assumes nothing.
 use mathlib.Core.Path.{_≡_, refl, sym, ap, _∙_}
-use mathlib.Core.Bool.{true, false}
+use mathlib.Core.Bool.{Bool, true, false}
 use mathlib.Core.List.{List, [], _∷_, _++_}
 use Prim.Native.Nat.{ℕ, zero, suc, _+_, _≤_, _<_}
 use native.Mathlib.Omega.{arith}
@@ -8,6 +8,7 @@ use borrow.Author.Tests.{le-leb, lt-leb}
 use lib.Dec.{leb}
 use lib.IntN.{ℤ}
 use lib.ListN.{length}
+use Rattle.laws.specs.Base.{pick}
 use Rattle.laws.specs.Lists.{firstOf}
 use Rattle.pricing.specs.Verdict.{accepted}
 use Rattle.book.specs.declared.record.Book.{Book}
@@ -28,19 +29,31 @@ use Rattle.billing.specs.Working.{told, toldIn}
 
 -- ---- the day, by one interval and in the end
 module _ (bill : Bill) (s : State) where
-  pub runs-end : (n : ℕ) → length (bill .records) ≤ s .at → runs n bill s ≡ ends accepted s
+  -- the records' end, then the interval's refusal, by what was tested
+  abbrev tests : ℕ → Bool → Bool → Day
+  tests n ended accepts =
+      pick ended (ends accepted s)
+      (pick accepts (runs n bill (after s (takenHere bill s)))
+      (ends (takenHere bill s .verdict) s))
+
+  runs-by : (n : ℕ) → runs (suc n) bill s ≡ tests n (leb (length (bill .records)) (s .at)) (isAccepted (takenHere bill s .verdict))
   unfolding runs
-  runs-end zero h = refl
-  runs-end (suc n) h = rw (le-leb _ _ h) refl
+  runs-by n = refl
+
+  runs-none : runs zero bill s ≡ ends accepted s
+  unfolding runs
+  runs-none = refl
+
+  pub runs-end : (n : ℕ) → length (bill .records) ≤ s .at → runs n bill s ≡ ends accepted s
+  runs-end zero h = runs-none
+  runs-end (suc n) h = runs-by n ∙ (rw (le-leb _ _ h) refl)
 
   module _ (n : ℕ) (h : s .at < length (bill .records)) where
     pub runs-next : isAccepted (takenHere bill s .verdict) ≡ true → runs (suc n) bill s ≡ runs n bill (after s (takenHere bill s))
-    unfolding runs
-    runs-next e = rw (lt-leb _ _ h, e) refl
+    runs-next e = runs-by n ∙ (rw (lt-leb _ _ h, e) refl)
 
     pub runs-refused : isAccepted (takenHere bill s .verdict) ≡ false → runs (suc n) bill s ≡ ends (takenHere bill s .verdict) s
-    unfolding runs
-    runs-refused e = rw (lt-leb _ _ h, e) refl
+    runs-refused e = runs-by n ∙ (rw (lt-leb _ _ h, e) refl)
 
   -- an interval that was accepted
   pub here-is : isAccepted (takenHere bill s .verdict) ≡ true → Taken (s .book) (bill .records) (s .at) (takenHere bill s)

@@ -26,8 +26,21 @@ use Rattle.bill_lines.proofs.Lents.{Lent-ok, lent-is}
 use Rattle.billing.specs.declared.Judgement.{Judgement}
 use Rattle.billing.specs.declared.Judgement.the-variants.{Refused as Not-judged}
 use Rattle.billing.specs.declared.Played.{Played}
-use Rattle.billing.specs.Billing.{Bill, Day, Outcome, judged, dayOf, lengthsOf, billed, outcome}
+use Rattle.billing.specs.Billing.{Bill, Day, Outcome, judged, dayOf, refusal, lengthsOf, billed, outcome}
 use Rattle.billing.specs.Working.{Said, Told, told, toldIn, said, saidBy}
+
+-- the day's refusal, then 46, then the first wrong line, by what was tested
+module _ (b : Book) (l : Lines) (d : Day) where
+  abbrev pub tests : Bool → Bool → Bool → Outcome
+  tests played heavy wrong =
+      pick (not played) (refusal (d .verdict) b (d .ring))
+      (pick heavy (refusal (refusedAt 46 (firstHeavy (l .energy))) b (d .ring))
+      (pick wrong (record { verdict = accepted; right = 0; line = firstWrong l (d .shown); book = b; work = d .ring })
+      (record { verdict = accepted; right = 1; line = 0; book = b; work = d .ring })))
+
+  pub judged-tests : judged b l d
+      ≡ tests (isAccepted (d .verdict)) (ltb (firstHeavy (l .energy)) (length (l .energy))) (ltb (firstWrong l (d .shown)) (howLong l (d .shown)))
+  judged-tests = refl
 
 -- an outcome of what is said, the book and the second ring
 abbrev pub outcomeBy : Said → Book → List ℤ → Outcome
@@ -67,14 +80,19 @@ module _ (b : Book) (l : Lines) (d : Day) (e : length (l .energy) ≡ length (l 
           let w = one-wrong l (d .shown) range t in
           rw (t, lt-ltb (firstWrong l (d .shown)) (howLong l (d .shown)) (omega (arith, w)), w .0) refl)
 
--- ---- the call, by the answers of its parts
+-- ---- the call: its first tests, then the day on a copy of the ring
+pub billed-is : (b : Book) (ring work : List ℤ) (bill : Bill) → let v = lentVerdict b (lengthsOf ring work bill) (bill .region) in
+    billed b ring work bill ≡ pick (isAccepted v) (judged b (bill .lines) (dayOf b ring bill)) (refusal v b work)
+unfolding billed
+billed-is b ring work bill = refl
+
+-- by the answers of its parts
 module _ (b : Book) (ring work : List ℤ) (bill : Bill) (a : Answer) (h : verdict a ≡ lentVerdict b (lengthsOf ring work bill) (bill .region)) where
   -- refused by 10, 11 or 21
   pub billed-refused : (r : Refusal) → a ≡ Refused r → outcome (record { book = b; judgement = Not-judged r }) work ≡ billed b ring work bill
-  unfolding billed
   billed-refused r q =
       let p = is-refused a _ h r q in
-      rw (p .1, p .0) refl
+      rw (billed-is b ring work bill, p .1, p .0) refl
 
   module _ (q : a ≡ Accepted) where
     pub lent-ok : Lent-ok b (lengthsOf ring work bill) (bill .region)
@@ -83,9 +101,8 @@ module _ (b : Book) (ring work : List ℤ) (bill : Bill) (a : Answer) (h : verdi
     pub billed-judged : (p : Played) (work′ : List ℤ) (j : Judgement) → toldIn p work′ ≡ told (bill .lines) (dayOf b ring bill)
         → said j ≡ saidBy (verdict (p .answer)) (p .count) (p .right) (length (bill .lines .numbers)) (bill .lines .energy)
         → outcome (record { book = b; judgement = j }) work′ ≡ billed b ring work bill
-    unfolding billed
     billed-judged p work′ j t s =
         let e = is-accepted a _ h q in
         let by : Told → Outcome = λ x. outcomeBy (saidBy (x .verdict) (x .count) (x .right) (length (bill .lines .numbers)) (bill .lines .energy)) b (x .ring) in
         let d : by (toldIn p work′) ≡ judged b (bill .lines) (dayOf b ring bill) = ap by t ∙ judged-by b (bill .lines) (dayOf b ring bill) (lent-ok .energy) in
-        rw e (ap (λ (x : Said). outcomeBy x b work′) s ∙ d)
+        rw (billed-is b ring work bill, e) (ap (λ (x : Said). outcomeBy x b work′) s ∙ d)

@@ -1,5 +1,6 @@
 -- "The lent book isn't altered": it is handed back as it was lent. Assumes nothing.
-use mathlib.Core.Path.{_≡_, refl}
+use mathlib.Core.Path.{_≡_, refl, ap, _∙_}
+use mathlib.Core.Bool.{Bool, true, false}
 use mathlib.Core.List.{List}
 use lib.Dec.{ltb}
 use lib.IntN.{ℤ}
@@ -9,19 +10,22 @@ use Rattle.book.specs.declared.record.Book.{Book}
 use Rattle.book.specs.Record.{isAccepted}
 use Rattle.bill_lines.specs.Lines.{Lines, howLong, firstWrong, firstHeavy}
 use Rattle.bill_lines.specs.Lent.{lentVerdict}
-use Rattle.billing.specs.Billing.{Bill, Day, judged, dayOf, lengthsOf, billed}
+use Rattle.billing.specs.Billing.{Bill, Day, Outcome, judged, dayOf, lengthsOf, billed}
+use Rattle.billing.proofs.Judging.{tests, judged-tests, billed-is}
+
+tests-book : (b : Book) (l : Lines) (d : Day) (played heavy wrong : Bool) → tests b l d played heavy wrong .book ≡ b
+tests-book b l d false heavy wrong = refl
+tests-book b l d true true wrong = refl
+tests-book b l d true false true = refl
+tests-book b l d true false false = refl
 
 judged-book : (b : Book) (l : Lines) (d : Day) → judged b l d .book ≡ b
 judged-book b l d =
-    by-test (isAccepted (d .verdict))
-    (λ v.
-    by-test (ltb (firstHeavy (l .energy)) (length (l .energy))) (λ h. rw (v, h) refl)
-    (λ h. by-test (ltb (firstWrong l (d .shown)) (howLong l (d .shown))) (λ w. rw (v, h, w) refl) (λ w. rw (v, h, w) refl)))
-    (λ v. rw v refl)
+    ap (λ (o : Outcome). o .book) (judged-tests b l d)
+    ∙ tests-book b l d (isAccepted (d .verdict)) (ltb (firstHeavy (l .energy)) (length (l .energy))) (ltb (firstWrong l (d .shown)) (howLong l (d .shown)))
 
 pub bill-book : (b : Book) (ring work : List ℤ) (bill : Bill) → billed b ring work bill .book ≡ b
-unfolding billed
 bill-book b ring work bill =
     by-test (isAccepted (lentVerdict b (lengthsOf ring work bill) (bill .region)))
-    (λ t. rw t (judged-book b (bill .lines) (dayOf b ring bill)))
-    (λ t. rw t refl)
+    (λ t. rw (billed-is b ring work bill, t) (judged-book b (bill .lines) (dayOf b ring bill)))
+    (λ t. rw (billed-is b ring work bill, t) refl)

@@ -1,11 +1,12 @@
 -- What an interval that was accepted says: its records stand whole, its entry was accepted, and the book has the shape that it had. Assumes nothing.
 use mathlib.Core.Path.{_≡_, refl, sym, ap, _∙_}
-use mathlib.Core.Bool.{true, false}
+use mathlib.Core.Bool.{Bool, true, false, not}
 use mathlib.Core.List.{List}
 use Prim.Native.Nat.{ℕ, _+_, _*_, _≤_}
 use native.Mathlib.Omega.{arith}
 use lib.IntN.{ℤ}
 use lib.ListN.{length}
+use Rattle.laws.specs.Base.{pick}
 use Rattle.laws.proofs.Tests.{by-test, never}
 use Rattle.book.specs.declared.record.Book.{Book}
 use Rattle.book.specs.Record.{marketsOf, isAccepted}
@@ -20,7 +21,7 @@ use Rattle.interval_records.specs.InOrder.{orderedVerdict}
 use Rattle.intervals.specs.Lent.{slicesOk}
 use Rattle.intervals.specs.Reading as Reading
 use Rattle.intervals.proofs.Ways.{records-room}
-use Rattle.interval_entry.specs.Taking.{Outcome, enteredFrom, gone, takenInto}
+use Rattle.interval_entry.specs.Taking.{Outcome, enteredFrom, stopped, gone, takenInto}
 
 -- ---- a reading that was accepted: the place after it is within the records
 module _ (b : Book) (records : List ℕ) (at : ℕ) (lent : Interval) (e : isAccepted (Reading.readInterval b records at lent .verdict) ≡ true) where
@@ -61,21 +62,34 @@ module _ (lent : Interval) (table : List ℤ) (b : Book) (ring : List ℤ) (reco
   abbrev all : Outcome
   all = takenInto lent table b ring records at schedule region
 
+  -- the reader's refusal, then the entry's, by what was accepted
+  abbrev tests : Bool → Bool → Outcome
+  tests r e =
+      pick (not r) (stopped (read .verdict) b ring)
+      (pick (not e) (stopped (entered .verdict) b ring)
+      (gone b region read entered))
+
+  all-by : all ≡ tests (isAccepted (read .verdict)) (isAccepted (entered .verdict))
+  unfolding takenInto
+  all-by = refl
+
   -- both were accepted, and the outcome is theirs
   pub both : isAccepted (all .verdict) ≡ true → (isAccepted (read .verdict) ≡ true) × (isAccepted (entered .verdict) ≡ true) × (all ≡ gone b region read entered)
-  unfolding takenInto
   both e =
+      let a : isAccepted (tests (isAccepted (read .verdict)) (isAccepted (entered .verdict)) .verdict) ≡ true = rw (← all-by) e in
       by-test (isAccepted (read .verdict))
-      (λ r. by-test (isAccepted (entered .verdict)) (λ t. (r, t, rw (r, t) refl)) (λ t. never _ (rw (r, t) at e) t))
-      (λ r. never _ (rw r at e) r)
+      (λ r. by-test (isAccepted (entered .verdict)) (λ t. (r, t, rw (all-by, r, t) refl)) (λ t. never _ (rw (r, t) at a) t))
+      (λ r. never _ (rw r at a) r)
 
   -- refused: book and ring are as they were
   pub taken-not : isAccepted (all .verdict) ≡ false → (all .book ≡ b) × (all .ring ≡ ring)
-  unfolding takenInto
   taken-not e =
       by-test (isAccepted (read .verdict))
-      (λ r. by-test (isAccepted (entered .verdict)) (λ t. never (isAccepted (all .verdict)) (rw (r, t) refl) e) (λ t. (rw (r, t) refl, rw (r, t) refl)))
-      (λ r. (rw r refl, rw r refl))
+      (λ r.
+      by-test (isAccepted (entered .verdict))
+      (λ t. never (isAccepted (all .verdict)) (rw (all-by, r, t) refl) e)
+      (λ t. (rw (all-by, r, t) refl, rw (all-by, r, t) refl)))
+      (λ r. (rw (all-by, r) refl, rw (all-by, r) refl))
 
   pub taken-is : isAccepted (all .verdict) ≡ true → Taken b records at all
   taken-is e =
