@@ -1,20 +1,18 @@
 -- A line's test in logical form, both ways, and the first line that fails it. Assumes nothing.
-use mathlib.Core.Path.{_≡_, refl, sym, ap, _∙_}
-use mathlib.Core.Bool.{Bool, true, false, not, _&&_}
+use mathlib.Core.Path.{_≡_, refl}
+use mathlib.Core.Bool.{Bool, true, not, _&&_}
 use mathlib.Core.List.{List}
-use Prim.Native.Nat.{ℕ, _≤_, _<_}
+use Prim.Native.Nat.{ℕ, _<_}
 use native.Mathlib.Omega.{arith}
 use borrow.Author.Tests.{eqb-true, eq-eqb, ltb-true, lt-ltb, not-true, not-false}
 use lib.Dec.{ltb, eqb}
 use lib.IntN.{ℤ, pos, _*ℤ_}
 use lib.Signed.{leZ}
 use lib.ListN.{length, getD}
-use Rattle.laws.specs.Lists.{firstOf}
 use Rattle.laws.proofs.Tests.{and-left, and-right, by-test, never}
 use Rattle.laws.proofs.Integers as Integers
 use Rattle.laws.proofs.Integers.{test-le, le-test}
 use Rattle.laws.proofs.Lists.{firstOf-found, firstOf-hit, firstOf-passed}
-use Rattle.pricing.specs.Rounding.{rounded, Nearest}
 use Rattle.pricing.proofs.Roundings.{round-law, round-only}
 use Rattle.bill_lines.specs.Lines.{Lines, Shown, same, amountOf, lineRight, rightAt, agrees, howLong, firstWrong}
 use Rattle.bill_laws.specs.Meaning.{shownAt, LineIs, FirstWrong}

@@ -5,21 +5,21 @@ use mathlib.Core.List.{List}
 use mathlib.Core.Logic.{⊎-elim}
 use Prim.Native.Nat.{ℕ, _≤_, _<_}
 use native.Mathlib.Omega.{arith}
-use borrow.Author.Tests.{leb-true, le-leb, ltb-true, ltb-false, le-ltb, lt-ltb, eqb-true, not-false}
-use lib.Dec.{leb, ltb, eqb}
+use borrow.Author.Tests.{leb-true, le-leb, ltb-true, ltb-false, le-ltb, not-false}
+use lib.Dec.{leb, ltb}
 use lib.IntN.{ℤ}
 use lib.ListN.{length, getD}
 use Rattle.laws.specs.Base.{pick}
 use Rattle.laws.proofs.Tests.{by-test, never, lt-or-ge}
-use Rattle.laws.proofs.Lists.{firstOf-none, firstOf-most, firstOf-passed}
+use Rattle.laws.proofs.Lists.{firstOf-none, firstOf-passed}
 use Rattle.pricing.specs.Verdict.{Verdict, accepted}
 use Rattle.book.specs.declared.record.Book.{Book}
 use Rattle.book.specs.Record.{isAccepted}
 use Rattle.bill_lines.specs.Lines.{Lines, agrees, howLong, firstWrong, mostEnergy, firstHeavy}
 use Rattle.bill_lines.specs.Lent.{lentVerdict}
 use Rattle.bill_lines.proofs.Firsts.{all-in-range}
-use Rattle.billing.specs.Billing.{Bill, Day, Outcome, dayOf, judged, lengthsOf, billed}
-use Rattle.bill_laws.specs.Meaning.{LineIs, Yes, FirstWrong}
+use Rattle.billing.specs.Billing.{Bill, Day, Outcome, dayOf, lengthsOf, billed}
+use Rattle.bill_laws.specs.Meaning.{Yes, FirstWrong}
 use Rattle.bill_laws.proofs.Agreeing.{agrees-is, is-agrees, first-is}
 use Rattle.bill_laws.proofs.Numbers.{lent-accepted, day-accepted}
 

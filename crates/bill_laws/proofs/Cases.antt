@@ -29,7 +29,7 @@ use Rattle.intervals.specs.Reading.{readVerdict, readInterval}
 use Rattle.bill_lines.specs.Lines.{Lines, linesOf, lineRight}
 use Rattle.bill_lines.specs.Lent.{lentVerdict}
 use Rattle.interval_entry.specs.Taking.{takenInto}
-use Rattle.billing.specs.Billing.{Bill, billOf, Outcome, runs, billed}
+use Rattle.billing.specs.Billing.{billOf, Outcome, runs, billed}
 
 -- a book of some linked regions with energy alone and a window of one price
 abbrev linked : ℕ → List ℕ → Book

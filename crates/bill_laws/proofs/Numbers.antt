@@ -5,10 +5,10 @@ use mathlib.Core.Logic.{_⊎_, inl, inr, ⊎-elim}
 use mathlib.Core.List.{List}
 use Prim.Native.Nat.{ℕ, zero, suc, _+_, _*_, _≤_, _<_}
 use native.Mathlib.Omega.{arith}
-use borrow.Author.Tests.{eqb-true, eq-eqb}
+use borrow.Author.Tests.{eq-eqb}
 use lib.Dec.{leb, ltb, eqb}
 use lib.IntN.{ℤ, pos}
-use lib.ListN.{length, replicate, length-replicate}
+use lib.ListN.{length, length-replicate}
 use Rattle.laws.specs.Base.{pick}
 use Rattle.laws.proofs.Tests.{by-test, never}
 use Rattle.laws.proofs.Lists.{length-run}
@@ -33,10 +33,10 @@ use Rattle.bill_lines.specs.Lent as Lent
 use Rattle.bill_lines.specs.Lent.{lentVerdict}
 use Rattle.bill_lines.proofs.Lents.{Lent-ok, lent-is}
 use Rattle.interval_entry.specs.Taking as Taking
-use Rattle.interval_entry.proofs.Steps.{Taken, taken-is, both}
+use Rattle.interval_entry.proofs.Steps.{taken-is, both}
 use Rattle.ledger.proofs.Steps.{ring-length}
 use Rattle.ledger.proofs.Keeping.{Kept, entered-kept}
-use Rattle.billing.specs.Billing.{Bill, State, Day, ends, takenHere, after, runs, begins, dayOf, lengthsOf}
+use Rattle.billing.specs.Billing.{Bill, State, takenHere, after, runs, begins, dayOf, lengthsOf}
 
 -- ---- an acceptance is all of it
 pub lent-accepted : (b : Book) (n : Lengths) (region : ℕ) → isAccepted (lentVerdict b n region) ≡ true → lentVerdict b n region ≡ accepted

@@ -4,12 +4,12 @@ use mathlib.Core.List.{List}
 use Prim.Native.Nat.{ℕ, _≤_, _<_}
 use lib.IntN.{ℤ, pos, _*ℤ_}
 use lib.ListN.{length, getD}
-use Rattle.pricing.specs.Verdict.{Verdict, accepted}
+use Rattle.pricing.specs.Verdict.{accepted}
 use Rattle.pricing.specs.Rounding.{Nearest}
 use Rattle.book.specs.declared.record.Book.{Book}
 use Rattle.bill_lines.specs.Lines.{Lines, Shown, shownAs, howLong}
 use Rattle.bill_lines.specs.Lent.{lentVerdict}
-use Rattle.billing.specs.Billing.{Bill, Day, dayOf, lengthsOf}
+use Rattle.billing.specs.Billing.{Bill, dayOf, lengthsOf}
 
 -- what the rules show of interval i
 abbrev pub shownAt : List Shown → ℕ → Shown

@@ -1,15 +1,13 @@
 -- The first wrong line and the first that is out of range, in logical form. Assumes nothing.
-use mathlib.Core.Path.{_≡_, refl, ap, _∙_}
-use mathlib.Core.Bool.{Bool, true, false, not}
-use mathlib.Core.Logic.{⊎-elim}
+use mathlib.Core.Path.{_≡_}
+use mathlib.Core.Bool.{true, false, not}
 use mathlib.Core.List.{List}
-use Prim.Native.Nat.{ℕ, _≤_, _<_}
+use Prim.Native.Nat.{ℕ, _<_}
 use native.Mathlib.Omega.{arith}
-use borrow.Author.Tests.{not-false, le-ltb, ltb-false}
+use borrow.Author.Tests.{not-false, ltb-false}
 use lib.Dec.{leb, ltb}
 use lib.ListN.{length, getD}
-use Rattle.laws.specs.Lists.{firstOf}
-use Rattle.laws.proofs.Lists.{firstOf-passed, firstOf-most}
+use Rattle.laws.proofs.Lists.{firstOf-passed}
 use Rattle.bill_lines.specs.Lines.{mostEnergy, firstHeavy}
 
 -- no line is out of range

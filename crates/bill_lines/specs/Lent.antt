@@ -10,7 +10,8 @@ use Rattle.book.specs.Record.{tableSize, ringSize}
 use Rattle.book.specs.Validity.{valid}
 use Rattle.bill_lines.specs.declared.lent.Lengths.{Lengths}
 
--- 11: the book's ring and the second one of R × M × W places each, a schedule of R × M × 2 × H prices, "four slices of one length (else 11)"
+-- 11: the book's ring and the second one, of R × M × W places each; a schedule of R × M × 2 × H prices; "four slices of one length
+-- (else 11)"
 abbrev pub lengthsOk : Book → Lengths → Bool
 lengthsOk b n =
     eqb (n .ring) (ringSize (b .regions) (b .services) (b .window))

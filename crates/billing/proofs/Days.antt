@@ -24,7 +24,7 @@ use Rattle.interval_entry.specs.declared.Step.{Step}
 use Rattle.interval_entry.specs.declared.Step.the-variants.{Gone, Stopped}
 use Rattle.interval_entry.specs.Taking as Taking
 use Rattle.interval_entry.proofs.Steps.{Taken, taken-is, taken-not}
-use Rattle.billing.specs.Billing.{Bill, State, Day, ends, takenHere, after, runs, begins, dayOf}
+use Rattle.billing.specs.Billing.{Bill, State, Day, ends, takenHere, after, runs, dayOf}
 use Rattle.billing.specs.Working.{told, toldIn}
 
 -- ---- the day, by one interval and in the end

@@ -1,23 +1,23 @@
 -- What is said of a day by its numbers is its judgement, and what the call comes to by the way the code takes. Assumes nothing.
-use mathlib.Core.Path.{_≡_, refl, sym, ap, _∙_}
+use mathlib.Core.Path.{_≡_, refl, ap, _∙_}
 use mathlib.Core.Bool.{Bool, true, false, not, _&&_}
 use mathlib.Core.List.{List}
 use Prim.Native.Nat.{ℕ, _<_}
 use native.Mathlib.Omega.{arith}
-use borrow.Author.Tests.{lt-ltb, le-ltb, eqb-true, ltb-true}
+use borrow.Author.Tests.{lt-ltb, le-ltb, eqb-true}
 use lib.Dec.{leb, ltb, eqb}
 use lib.IntN.{ℤ}
 use lib.ListN.{length, getD}
 use Rattle.laws.specs.Base.{pick}
 use Rattle.laws.proofs.Tests.{by-test, and-left, and-right}
-use Rattle.pricing.specs.Verdict.{Verdict, accepted, refusedAt}
+use Rattle.pricing.specs.Verdict.{accepted, refusedAt}
 use Rattle.book.specs.declared.record.Book.{Book}
 use Rattle.book.specs.declared.record.Answer.{Answer}
 use Rattle.book.specs.declared.record.Answer.the-variants.{Accepted, Refused}
 use Rattle.book.specs.declared.record.Refusal.{Refusal}
 use Rattle.book.specs.Record.{verdict, isAccepted}
 use Rattle.book.proofs.Ways.{is-accepted, is-refused}
-use Rattle.bill_lines.specs.Lines.{Lines, Shown, howLong, firstWrong, mostEnergy, firstHeavy}
+use Rattle.bill_lines.specs.Lines.{Lines, howLong, firstWrong, mostEnergy, firstHeavy}
 use Rattle.bill_lines.specs.Lent.{lentVerdict}
 use Rattle.bill_lines.specs.Working.{leading}
 use Rattle.bill_lines.proofs.Leads.{none-wrong, one-wrong}

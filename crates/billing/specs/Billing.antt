@@ -77,7 +77,7 @@ pub record Outcome : Type 0 where
 abbrev pub refusal : Verdict → Book → List ℤ → Outcome
 refusal v b work = record { verdict = v; right = 0; line = 0; book = b; work = work }
 
--- "46 .. after all refusals of the records and entries", then yes (1) or the first wrong line; "the lent book isn't altered", and the
+-- "46 .. after all refusals of the records and entries", then yes (1) or the first wrong line. "The lent book isn't altered", and the
 -- second ring is the day's in each case
 abbrev pub judged : Book → Lines → Day → Outcome
 judged b l d =

@@ -1,8 +1,8 @@
 -- What an interval that was accepted says: its records stand whole, its entry was accepted, and the book has the shape that it had. Assumes nothing.
-use mathlib.Core.Path.{_≡_, refl, sym, ap, _∙_}
+use mathlib.Core.Path.{_≡_, refl, ap, _∙_}
 use mathlib.Core.Bool.{Bool, true, false, not}
 use mathlib.Core.List.{List}
-use Prim.Native.Nat.{ℕ, _+_, _*_, _≤_}
+use Prim.Native.Nat.{ℕ, _+_, _≤_}
 use native.Mathlib.Omega.{arith}
 use lib.IntN.{ℤ}
 use lib.ListN.{length}
@@ -16,8 +16,7 @@ use Rattle.entries.specs.Entering as Entering
 use Rattle.entries.specs.Working.{acceptance}
 use Rattle.entries.proofs.Unmoved.{entered-is}
 use Rattle.publishing.specs.Entry.{Entry, entryOf}
-use Rattle.interval_records.specs.Layout.{Interval, headLength, regionLength, lengthFor}
-use Rattle.interval_records.specs.InOrder.{orderedVerdict}
+use Rattle.interval_records.specs.Layout.{Interval, lengthFor}
 use Rattle.intervals.specs.Lent.{slicesOk}
 use Rattle.intervals.specs.Reading as Reading
 use Rattle.intervals.proofs.Ways.{records-room}

@@ -1,10 +1,7 @@
 -- `billing::check_bill` meets its contract: the answers of its parts decide, one law for each way out. Assumes nothing.
-use mathlib.Core.Path.{_≡_, sym, ap, _∙_}
-use mathlib.Core.Bool.{true}
+use mathlib.Core.Path.{_≡_, ap, _∙_}
 use mathlib.Core.List.{List}
-use native.Mathlib.Omega.{arith}
 use lib.IntN.{ℤ}
-use lib.ListN.{length}
 use Rattle.book.proofs.Validities.{valid-is}
 use Rattle.bill_lines.specs.Lines.{linesOf}
 use Rattle.bill_lines.proofs.Lents.{Lent-ok}

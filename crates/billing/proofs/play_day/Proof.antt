@@ -1,6 +1,6 @@
 -- `billing::play_day` meets its contract. The loop's invariant: so many intervals from here come to the whole day. Assumes nothing.
-use mathlib.Core.Path.{_≡_, refl, sym, ap, _∙_}
-use Prim.Native.Nat.{ℕ, _+_, _-_, _≤_, _<_}
+use mathlib.Core.Path.{_≡_, refl, _∙_}
+use Prim.Native.Nat.{_-_, _≤_, _<_}
 use native.Mathlib.Omega.{arith}
 use lib.ListN.{length}
 use mir.Syntax.{w32}
@@ -8,7 +8,7 @@ use mir.Val.{SFits}
 use mir.Facts.{toZ-ofZ}
 use Rattle.bill_lines.specs.Lines.{Lines, linesOf, shownAs}
 use Rattle.bill_lines.specs.Working.{leadsTo}
-use Rattle.billing.specs.Billing.{Bill, billOf}
+use Rattle.billing.specs.Billing.{billOf}
 use Rattle.billing.proofs.Days.{Held, start, done, stop, further, again}
 use borrow.Author.Needs.{needs}
 use Rattle.billing.proofs.play_day.Statement.{statement}

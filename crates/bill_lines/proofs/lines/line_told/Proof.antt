@@ -1,17 +1,17 @@
 -- `bill_lines::lines::line_told` meets its contract: one law for each way out. Assumes nothing.
 use borrow.Author.Needs.{needs, sfits-of}
-use mathlib.Core.Path.{_≡_, refl, sym, _∙_}
-use mathlib.Core.Bool.{true, false}
+use mathlib.Core.Path.{_≡_, _∙_}
+use mathlib.Core.Bool.{true}
 use Prim.Native.Nat.{_<_}
 use native.Mathlib.Omega.{arith}
 use borrow.Author.Tests.{not-true, not-false, ltb-true, leb-true}
-use lib.Dec.{leb, ltb}
+use lib.Dec.{ltb}
 use lib.IntN.{pos}
 use lib.ListN.{length, getD}
 use mir.Syntax.{w32, w64}
 use mir.Val.{SFits}
 use mir.Facts.{toZ-ofZ}
-use Rattle.bill_lines.specs.Lines.{Lines, Shown, linesOf, shownAs, rightAt, mostEnergy}
+use Rattle.bill_lines.specs.Lines.{Lines, Shown, linesOf, shownAs, rightAt}
 use Rattle.bill_lines.proofs.Tolds.{told-missing, told-heavy, told-right}
 use Rattle.bill_lines.proofs.lines.line_told.Statement.{statement}
 use Rattle.bill_lines.proofs.lines.line_told.Tie as tie
