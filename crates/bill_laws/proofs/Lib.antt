@@ -1,4 +1,5 @@
 pub mod Agreeing
 pub mod Answers
 pub mod Numbers
+pub mod Enough
 pub mod Cases
