@@ -1,29 +1,36 @@
 -- Rule 10 of its parts, that a refusal is none of an acceptance, and what an answer says of its verdict. Assumes nothing.
 use mathlib.Core.Path.{_≡_, refl, sym, ap, _∙_}
-use mathlib.Core.Bool.{Bool, false, _&&_}
+use mathlib.Core.Bool.{Bool, true, false, _&&_}
 use lib.Dec.{leb}
-use Rattle.laws.proofs.Tests.{and-assoc}
+use Rattle.laws.proofs.Tests.{and-assoc, never}
 use Rattle.pricing.specs.Verdict.{Verdict, accepted}
 use Rattle.pricing.specs.Holding.{limitsOk}
 use Rattle.book.specs.declared.record.Book.{Book}
 use Rattle.book.specs.declared.record.Refusal.{Refusal}
-use Rattle.book.specs.declared.record.Refusal.the-variants.{Invalid, Length, Full, Number, Kind, Mark, Price, Factor, Threshold, Limits, Setting, Market, Sums, Buffer, ImageLength, ImageKind, ImageField, ImageTotal, Broken, RecordKind, RecordRegion, PlannedPrice, Hundreds, RecordOrder, BilledEnergy}
+use Rattle.book.specs.declared.record.Refusal.the-variants.{Invalid, Length, Full, Number, Kind, Mark, Price, Factor, Threshold, Limits, Setting, Market, Sums, Buffer, ImageLength, ImageKind, ImageField, ImageTotal, Broken, RecordKind, RecordRegion, PlannedPrice, Hundreds, RecordOrder, BilledEnergy, ImageFirst}
 use Rattle.book.specs.declared.record.Answer.{Answer}
 use Rattle.book.specs.declared.record.Answer.the-variants.{Accepted, Refused}
-use Rattle.book.specs.Record.{verdictOf, verdict, isAccepted}
-use Rattle.book.specs.Validity.{shapeOk, parentsOk, thresholdOk, regionsOk, placesOk, valid}
+use Rattle.book.specs.Record.{fromOf, toOf, hasLink, linksKnown, verdictOf, verdict, isAccepted}
+use Rattle.book.specs.Validity.{shapeOk, parentsOk, endsOk, thresholdOk, regionsOk, placesOk, valid}
 
 -- rule 10 of its parts, as the code groups them
-pub valid-by : (b : Book) (s p t l c k : Bool)
+pub valid-by : (b : Book) (s p n t l c k : Bool)
     → s ≡ shapeOk (b .regions) (b .services) (b .window) (b .halves) (b .position)
     → p ≡ parentsOk (b .regions) (b .parents)
+    → n ≡ endsOk (b .regions) (b .parents) (fromOf b) (toOf b)
     → t ≡ thresholdOk (b .threshold)
     → l ≡ limitsOk (b .cap) (b .floor)
     → c ≡ regionsOk (b .regions) (b .window) (b .entries) (b .counts) (b .nexts)
     → k ≡ placesOk (b .regions) (b .services) (b .sums) (b .marks)
-    → ((s && p && (t && l)) && leb (b .entries) 10000000 && c && k) ≡ valid b
+    → ((s && (p && n) && (t && l)) && leb (b .entries) 10000000 && c && k) ≡ valid b
 unfolding valid
-valid-by b s p t l c k hs hp ht hl hc hk = rw (and-assoc (s && p) t l, hs, hp, ht, hl, hc, hk)
+valid-by b s p n t l c k hs hp hn ht hl hc hk =
+    rw (and-assoc s p n, and-assoc (s && p && n) t l, hs, hp, hn, ht, hl, hc, hk)
+
+-- a book that has the additional link is one of those in whose time it is known
+pub link-known : (b : Book) → hasLink b ≡ true → linksKnown ≡ true
+unfolding fromOf
+link-known b e = never true refl (sym e)
 
 -- no case of a refusal has the number of an acceptance
 pub refusal-is : (r : Refusal) → isAccepted (verdictOf r) ≡ false
@@ -52,6 +59,7 @@ refusal-is PlannedPrice = refl
 refusal-is Hundreds = refl
 refusal-is RecordOrder = refl
 refusal-is (BilledEnergy place) = refl
+refusal-is ImageFirst = refl
 
 -- ---- an answer that says a verdict
 module _ (a : Answer) (v : Verdict) (h : verdict a ≡ v) where

@@ -1,14 +1,15 @@
 -- The closed book, the sizes of the lent slices, and the paper's number and place of every refusal. Assumes nothing.
-use mathlib.Core.Bool.{Bool}
+use mathlib.Core.Bool.{Bool, false, not}
 use mathlib.Core.List.{List}
 use Prim.Native.Nat.{ℕ, _+_, _*_}
 use lib.Dec.{eqb}
 use lib.IntN.{pos}
 use lib.ListN.{replicate}
+use Rattle.laws.specs.Base.{pick}
 use Rattle.pricing.specs.Verdict.{Verdict, accepted, refused, refusedAt}
 use Rattle.book.specs.declared.record.Book.{Book}
 use Rattle.book.specs.declared.record.Refusal.{Refusal}
-use Rattle.book.specs.declared.record.Refusal.the-variants.{Invalid, Length, Full, Number, Kind, Mark, Price, Factor, Threshold, Limits, Setting, Market, Sums, Buffer, ImageLength, ImageKind, ImageField, ImageTotal, Broken, RecordKind, RecordRegion, PlannedPrice, Hundreds, RecordOrder, BilledEnergy}
+use Rattle.book.specs.declared.record.Refusal.the-variants.{Invalid, Length, Full, Number, Kind, Mark, Price, Factor, Threshold, Limits, Setting, Market, Sums, Buffer, ImageLength, ImageKind, ImageField, ImageTotal, Broken, RecordKind, RecordRegion, PlannedPrice, Hundreds, RecordOrder, BilledEnergy, ImageFirst}
 use Rattle.book.specs.declared.record.Answer.{Answer}
 use Rattle.book.specs.declared.record.Answer.the-variants.{Accepted, Refused}
 
@@ -41,9 +42,35 @@ tableSize regions services = regions * marketsOf services
 abbrev pub ringSize : ℕ → ℕ → ℕ → ℕ
 ringSize regions services window = tableSize regions services * window
 
--- a flow and a factor for each region
+-- no region: no parent, and no end of the additional link of 2026-10
+abbrev pub none : ℕ
+none = 255
+
+-- "A book may be opened with one additional link between two regions": `from` is the first named
+abbrev pub isLinked : ℕ → Bool
+isLinked from = not (eqb from none)
+
+-- "R flows, R factors", and the additional link's "as an extra last place"
+abbrev pub linksWith : ℕ → ℕ → ℕ
+linksWith regions from = pick (isLinked from) (regions + 1) regions
+
+-- the ends of a book's additional link. 2026-10 is prepared: the book has no field for them yet, so no book has the link
+unfoldable pub fromOf : Book → ℕ
+fromOf b = none
+
+unfoldable pub toOf : Book → ℕ
+toOf b = none
+
+-- and neither the link's record nor the second kind of image is known yet. What is proved of them holds either way
+unfoldable pub linksKnown : Bool
+linksKnown = false
+
+abbrev pub hasLink : Book → Bool
+hasLink b = isLinked (fromOf b)
+
+-- a flow and a factor for each link that a book may have
 abbrev pub linkCount : Book → ℕ
-linkCount b = b .regions
+linkCount b = linksWith (b .regions) (fromOf b)
 
 -- "The book record carries 88 sums and 88 period marks, at place 11 × region + market"
 abbrev pub placeOf : ℕ → ℕ → ℕ
@@ -76,6 +103,7 @@ verdictOf PlannedPrice = refused 43
 verdictOf Hundreds = refused 44
 verdictOf RecordOrder = refused 45
 verdictOf (BilledEnergy place) = refusedAt 46 place
+verdictOf ImageFirst = refused 47
 
 abbrev pub verdict : Answer → Verdict
 verdict Accepted = accepted

@@ -9,6 +9,7 @@ use lib.ListN.{getD}
 use Rattle.laws.specs.Lists.{allBelow}
 use Rattle.pricing.specs.Holding.{limitsOk}
 use Rattle.book.specs.declared.record.Book.{Book}
+use Rattle.book.specs.Record.{none, fromOf, toOf}
 
 -- "The parent of region r is a lower region linked to it, or 255 for none; region 0 and places from R up hold 255"
 abbrev pub parentOk : ℕ → ℕ → ℕ → Bool
@@ -16,6 +17,13 @@ parentOk regions r parent = eqb parent 255 || ltb r regions && ltb parent r
 
 abbrev pub parentsOk : ℕ → List ℕ → Bool
 parentsOk regions parents = allBelow 8 (λ r. parentOk regions r (getD parents r 0))
+
+-- "one additional link between two regions not already linked", or 255 and 255 for none
+abbrev pub endsOk : ℕ → List ℕ → ℕ → ℕ → Bool
+endsOk regions parents from to =
+    eqb from none && eqb to none
+    || ltb from regions && ltb to regions && not (eqb from to)
+    && not (eqb (getD parents from none) to) && not (eqb (getD parents to none) from)
 
 -- "regions R 1..8; services S 0..10 ..; window W 1..2,016; half-hours a day H 1..48, D = 6 × H intervals; first position
 -- 0..D−1; eight parent bytes". Of a book the position is the next entry's
@@ -57,6 +65,7 @@ placesOk regions services sums marks =
 unfoldable pub valid : Book → Bool
 valid b =
     shapeOk (b .regions) (b .services) (b .window) (b .halves) (b .position) && parentsOk (b .regions) (b .parents)
-    && thresholdOk (b .threshold) && limitsOk (b .cap) (b .floor) && leb (b .entries) 10000000
+    && endsOk (b .regions) (b .parents) (fromOf b) (toOf b) && thresholdOk (b .threshold) && limitsOk (b .cap) (b .floor)
+    && leb (b .entries) 10000000
     && regionsOk (b .regions) (b .window) (b .entries) (b .counts) (b .nexts)
     && placesOk (b .regions) (b .services) (b .sums) (b .marks)

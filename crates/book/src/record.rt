@@ -1,6 +1,6 @@
 // The book record, the settings that it is opened with, and the refusals of every call on a book with their numbers and places.
 ghost use mathlib.Core.Path.{_≡_};
-ghost use Rattle.book.specs.Record.{closed, ringSize, verdictOf, verdict};
+ghost use Rattle.book.specs.Record.{closed, ringSize, linksWith, hasLink, linkCount, verdictOf, verdict};
 
 // A book by value. The sum and the period mark of a market stand at 11 × region + market; a region's count and next place
 // serve all its markets. `position` is the next entry's. Laid out as in C: a host keeps it between calls.
@@ -63,6 +63,7 @@ pub enum Refusal {
     Hundreds,
     RecordOrder,
     BilledEnergy(usize),
+    ImageFirst,
 }
 
 // What a call that answers nothing else says.
@@ -123,6 +124,7 @@ pub fn number(refusal: Refusal) -> u32
         Refusal::Hundreds => 44,
         Refusal::RecordOrder => 45,
         Refusal::BilledEnergy(_) => 46,
+        Refusal::ImageFirst => 47,
     }
 }
 
@@ -164,4 +166,29 @@ pub fn ring_size(regions: u8, services: u8, window: u16) -> usize
     ensures { λ r. ⌜ r ≡ ringSize regions services window ⌝ }
 {
     regions as usize * (services as usize + 1) * window as usize
+}
+
+// The places of flows and factors: one for each region, and a last one for the additional link that `from` is an end of.
+pub fn links_with(regions: u8, from: u8) -> usize
+    ensures { λ r. ⌜ r ≡ linksWith regions from ⌝ }
+{
+    if from == 255 {
+        regions as usize
+    } else {
+        regions as usize + 1
+    }
+}
+
+// Whether a book has the additional link. No book has a field for it yet.
+pub fn has_link(book: Book) -> bool
+    ensures { λ x. ⌜ x ≡ hasLink book ⌝ }
+{
+    false
+}
+
+// The places of flows and factors of a book.
+pub fn link_count(book: Book) -> usize
+    ensures { λ r. ⌜ r ≡ linkCount book ⌝ }
+{
+    links_with(book.regions, 255)
 }

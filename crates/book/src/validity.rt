@@ -7,7 +7,8 @@ ghost use lib.Dec.{leb};
 ghost use lib.IntN.{pos};
 ghost use lib.ListN.{getD};
 ghost use Rattle.laws.specs.Lists.{allBelow};
-ghost use Rattle.book.specs.Validity.{parentOk, parentsOk, shapeOk, thresholdOk, regionOk, placeOk, regionsOk, placesOk, valid};
+ghost use Rattle.book.specs.Record.{none};
+ghost use Rattle.book.specs.Validity.{parentOk, parentsOk, shapeOk, thresholdOk, regionOk, placeOk, regionsOk, placesOk, endsOk, valid};
 
 fn parent_ok(regions: usize, r: usize, parent: usize) -> bool
     ensures { λ x. ⌜ x ≡ parentOk regions r parent ⌝ }
@@ -25,6 +26,22 @@ pub fn parents_ok(regions: usize, parents: [u8; 8]) -> bool
         r += 1;
     }
     ok
+}
+
+// A region's parent, or 255 for a number that is no region's: a forged book may have its ends anywhere.
+fn parent_of(parents: [u8; 8], r: usize) -> usize
+    ensures { λ x. ⌜ x ≡ getD parents r none ⌝ }
+{
+    if r < 8 { parents[r] as usize } else { 255 }
+}
+
+// The ends of the additional link: 255 and 255, or two regions not already linked.
+pub fn ends_ok(regions: usize, parents: [u8; 8], from: usize, to: usize) -> bool
+    ensures { λ x. ⌜ x ≡ endsOk regions parents from to ⌝ }
+{
+    let up = parent_of(parents, from) != to;
+    let down = parent_of(parents, to) != from;
+    ((from == 255) & (to == 255)) | ((from < regions) & (to < regions) & (from != to) & up & down)
 }
 
 pub fn shape_ok(regions: u8, services: u8, window: u16, halves: u8, position: u16) -> bool
@@ -158,5 +175,6 @@ pub fn valid(book: Book) -> bool
         &book.nexts,
     );
     let places = places_ok(regions, book.services as usize, &book.sums, &book.marks);
-    shape & parents_ok(regions, parents) & limits & (book.entries <= 10000000) & counts & places
+    let links = parents_ok(regions, parents) & ends_ok(regions, parents, 255, 255);
+    shape & links & limits & (book.entries <= 10000000) & counts & places
 }

@@ -15,8 +15,8 @@ use Rattle.pricing.specs.Verdict.{Verdict, accepted, refused}
 use Rattle.pricing.specs.Holding.{limitsOk}
 use Rattle.book.specs.declared.record.Book.{Book}
 use Rattle.book.specs.declared.record.Settings.{Settings}
-use Rattle.book.specs.Record.{closed, ringSize, isAccepted}
-use Rattle.book.specs.Validity.{parentOk, shapeOk, parentsOk, thresholdOk, valid}
+use Rattle.book.specs.Record.{closed, ringSize, fromOf, toOf, isAccepted}
+use Rattle.book.specs.Validity.{parentOk, shapeOk, parentsOk, endsOk, thresholdOk, valid}
 use Rattle.book_calls.specs.Opening.{openVerdict, fresh, opened}
 use Rattle.book_calls.specs.Setting.{inHundreds, thresholdVerdict, limitsVerdict, withSettings, Outcome, changed, setThreshold, setLimits}
 use Rattle.book_calls.specs.Report.{reportOf, reported}
@@ -65,6 +65,10 @@ module _ (s : Settings) (n : ℕ) (e : isAccepted (openVerdict s n) ≡ true) wh
   parents : parentsOk (s .regions) (s .parents) ≡ true
   parents = and-right (shapeOk (s .regions) (s .services) (s .window) (s .halves) (s .first)) (parentsOk (s .regions) (s .parents)) (accepts .0)
 
+  ends : endsOk (s .regions) (s .parents) (fromOf (fresh s)) (toOf (fresh s)) ≡ true
+  unfolding fromOf toOf
+  ends = refl
+
   pub fresh-is : Valid (fresh s)
   fresh-is =
       let h = shape-is (s .regions) (s .services) (s .window) (s .halves) (s .first) shape in
@@ -78,6 +82,7 @@ module _ (s : Settings) (n : ℕ) (e : isAccepted (openVerdict s n) ≡ true) wh
         halves = h .6;
         position = h .7;
         parent = λ r l. parent-is (s .regions) r (getD (s .parents) r 0) (all-at 8 (λ q. parentOk (s .regions) q (getD (s .parents) q 0)) parents r l);
+        ends = ends;
         threshold = accepts .2;
         limits = accepts .3;
         entries = omega arith;
@@ -116,8 +121,8 @@ module _ (s : Settings) (ring : List ℤ) where
 -- ---- settings
 module _ (b : Book) (threshold cap floor : ℤ) (ok : valid b ≡ true) (t : thresholdOk threshold ≡ true) (l : limitsOk cap floor ≡ true) where
   pub setting-valid : valid (withSettings b threshold cap floor) ≡ true
-  unfolding valid
-  setting-valid = let p = parts b ok in rw (p .0, p .1, t, l, p .4, p .5, p .6)
+  unfolding valid fromOf toOf
+  setting-valid = let p = parts b ok in rw (p .0, p .1, p .2, t, l, p .5, p .6, p .7)
 
   pub setting-report : (region market : ℕ) → reportOf (withSettings b threshold cap floor) region market ≡ reportOf b region market
   unfolding reportOf
@@ -151,12 +156,12 @@ module _ (b : Book) (v : Verdict) (threshold cap floor : ℤ) where
 pub threshold-sets : (b : Book) (threshold : ℤ) → Sets b (withSettings b threshold (b .cap) (b .floor)) (setThreshold b threshold)
 unfolding setThreshold
 threshold-sets b threshold =
-    sets b (thresholdVerdict threshold) threshold (b .cap) (b .floor) (λ ok e. (threshold-is threshold e .0, parts b ok .3))
+    sets b (thresholdVerdict threshold) threshold (b .cap) (b .floor) (λ ok e. (threshold-is threshold e .0, parts b ok .4))
 
 pub limits-sets : (b : Book) (cap floor : ℤ) → Sets b (withSettings b (b .threshold) cap floor) (setLimits b cap floor)
 unfolding setLimits limitsVerdict
 limits-sets b cap floor =
-    sets b (limitsVerdict cap floor) (b .threshold) cap floor (λ ok e. (parts b ok .2, passes-not (limitsOk cap floor) (refused 19) accepted refl e .0))
+    sets b (limitsVerdict cap floor) (b .threshold) cap floor (λ ok e. (parts b ok .3, passes-not (limitsOk cap floor) (refused 19) accepted refl e .0))
 
 -- ---- report
 pub reported-back : (b : Book) (region market : ℕ) → reported b region market .book ≡ b
