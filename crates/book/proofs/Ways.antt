@@ -1,8 +1,11 @@
 -- Rule 10 of its parts, that a refusal is none of an acceptance, and what an answer says of its verdict. Assumes nothing.
 use mathlib.Core.Path.{_≡_, refl, sym, ap, _∙_}
 use mathlib.Core.Bool.{Bool, true, false, _&&_}
-use lib.Dec.{leb}
-use Rattle.laws.proofs.Tests.{and-assoc, never}
+use Prim.Native.Nat.{ℕ, _+_, _≤_}
+use native.Mathlib.Omega.{arith}
+use borrow.Author.Tests.{ne-eqb}
+use lib.Dec.{eqb, leb}
+use Rattle.laws.proofs.Tests.{and-assoc, by-test, never}
 use Rattle.pricing.specs.Verdict.{Verdict, accepted}
 use Rattle.pricing.specs.Holding.{limitsOk}
 use Rattle.book.specs.declared.record.Book.{Book}
@@ -10,7 +13,7 @@ use Rattle.book.specs.declared.record.Refusal.{Refusal}
 use Rattle.book.specs.declared.record.Refusal.the-variants.{Invalid, Length, Full, Number, Kind, Mark, Price, Factor, Threshold, Limits, Setting, Market, Sums, Buffer, ImageLength, ImageKind, ImageField, ImageTotal, Broken, RecordKind, RecordRegion, PlannedPrice, Hundreds, RecordOrder, BilledEnergy, ImageFirst}
 use Rattle.book.specs.declared.record.Answer.{Answer}
 use Rattle.book.specs.declared.record.Answer.the-variants.{Accepted, Refused}
-use Rattle.book.specs.Record.{fromOf, toOf, hasLink, linksKnown, verdictOf, verdict, isAccepted}
+use Rattle.book.specs.Record.{linksWith, fromOf, toOf, hasLink, linksKnown, verdictOf, verdict, isAccepted}
 use Rattle.book.specs.Validity.{shapeOk, parentsOk, endsOk, thresholdOk, regionsOk, placesOk, valid}
 
 -- rule 10 of its parts, as the code groups them
@@ -26,6 +29,16 @@ pub valid-by : (b : Book) (s p n t l c k : Bool)
 unfolding valid
 valid-by b s p n t l c k hs hp hn ht hl hc hk =
     rw (and-assoc s p n, and-assoc (s && p && n) t l, hs, hp, hn, ht, hl, hc, hk)
+
+-- ---- how many places of flows and factors there are
+pub links-least : (regions from : ℕ) → regions ≤ linksWith regions from
+links-least regions from = by-test (eqb from 255) (λ e. rw e (omega arith)) (λ e. rw e (omega arith))
+
+pub links-most : (regions from : ℕ) → linksWith regions from ≤ regions + 1
+links-most regions from = by-test (eqb from 255) (λ e. rw e (omega arith)) (λ e. rw e (omega arith))
+
+pub links-more : (regions from : ℕ) → (from ≡ 255 → ⊥) → linksWith regions from ≡ regions + 1
+links-more regions from n = rw (ne-eqb from 255 n)
 
 -- a book that has the additional link is one of those in whose time it is known
 pub link-known : (b : Book) → hasLink b ≡ true → linksKnown ≡ true

@@ -16,16 +16,17 @@ use Rattle.laws.proofs.Lists.{tabulate-same, firstOf-same}
 use Rattle.pricing.specs.Verdict.{Verdict}
 use Rattle.pricing.specs.Holding.{isEnergy, inRange}
 use Rattle.book.specs.declared.record.Book.{Book}
-use Rattle.book.specs.Record.{marketsOf, placeOf, isAccepted}
+use Rattle.book.specs.Record.{marketsOf, placeOf, linksWith, fromOf, linkCount, isAccepted}
 use Rattle.book.specs.Validity.{usedPlace}
 use Rattle.book.proofs.Validities.{valid-is}
+use Rattle.book.proofs.Ways.{links-most}
 use Rattle.publishing.specs.Entry.{Entry}
 use Rattle.publishing.proofs.Unused as Publishing
 use Rattle.publishing.proofs.Unused.{table-same, count-same}
 use Rattle.counting.specs.Windows.{joins, joining, leaving, sumAfter, sumsAfter, grown, countsAfter}
 use Rattle.counting.specs.Windows.{following, nextsAfter, written, ringAfter}
 use Rattle.counting.proofs.Picks.{pick-same}
-use Rattle.entries.specs.Checking.{lengthsOk, firstMark, badPrice, firstPrice, badFactor, firstFactor, entryVerdict}
+use Rattle.entries.specs.Checking.{lengthsOk, firstMark, badPrice, firstPrice, hasFactor, badFactor, firstFactor, entryVerdict}
 use Rattle.entries.specs.Entering.{shapeOf, termsOf, bookAfter, enterVerdict, entered}
 use Rattle.entries.specs.Working.{Accepts, acceptance}
 use Rattle.entries.specs.Unused.{Alike}
@@ -35,6 +36,10 @@ use Rattle.entries.proofs.Accepted.{accepted-entry, terms-ok}
 and-same : (t x y : Bool) → (t ≡ true → x ≡ y) → (t && x) ≡ (t && y)
 and-same true x y e = e refl
 and-same false x y e = refl
+
+-- a place that is not R is a region's
+below : (r R from : ℕ) → r < linksWith R from → (r ≡ R → ⊥) → r < R
+below r R from h n = omega (arith, links-most R from, n)
 
 module _ (b : Book) (e e′ : Entry) (same : Alike b e e′) where
   abbrev R : ℕ
@@ -72,15 +77,23 @@ module _ (b : Book) (e e′ : Entry) (same : Alike b e e′) where
   first-price-same : firstPrice R M (e .offer .prices) (e .offer .marked) ≡ firstPrice R M (e′ .offer .prices) (e′ .offer .marked)
   first-price-same = firstOf-same (R * M) _ _ bad-price-same
 
-  bad-factor-same : (r : ℕ) → r < R → badFactor (b .parents) (e .factors) r ≡ badFactor (b .parents) (e′ .factors) r
-  bad-factor-same r h =
+  -- a factor that is looked at: at R the additional link's, below R that of a region with a parent
+  factor-same : (r : ℕ) → r < linkCount b → hasFactor R (b .parents) r ≡ true → getD (e .factors) r 0 ≡ getD (e′ .factors) r 0
+  factor-same r h t =
       let p = getD (b .parents) r 255 in
-      let bad : ℕ → Bool = λ f. not (leb 10000 f && leb f 20000) in
-      and-same (not (eqb p 255)) (bad (getD (e .factors) r 0)) (bad (getD (e′ .factors) r 0))
-      (λ t. ap bad (same .linked r h (λ q. never (not (eqb p 255)) t (ap not (eq-eqb p 255 q))) .1))
+      by-test (eqb r R)
+      (λ k. let x = eqb-true r R k in
+      rw x (same .extra (λ z. let m : linkCount b ≡ R = rw (eq-eqb (fromOf b) 255 z) in omega arith) .1))
+      (λ k. let l : r < R = below r R (fromOf b) h (eqb-false r R k) in
+      same .linked r l (λ q. never (not (eqb p 255)) (rw k at t) (ap not (eq-eqb p 255 q))) .1)
 
-  first-factor-same : firstFactor R (b .parents) (e .factors) ≡ firstFactor R (b .parents) (e′ .factors)
-  first-factor-same = firstOf-same R _ _ bad-factor-same
+  bad-factor-same : (r : ℕ) → r < linkCount b → badFactor R (b .parents) (e .factors) r ≡ badFactor R (b .parents) (e′ .factors) r
+  bad-factor-same r h =
+      let bad : ℕ → Bool = λ f. not (leb 10000 f && leb f 20000) in
+      and-same (hasFactor R (b .parents) r) (bad (getD (e .factors) r 0)) (bad (getD (e′ .factors) r 0)) (λ t. ap bad (factor-same r h t))
+
+  first-factor-same : firstFactor (linkCount b) R (b .parents) (e .factors) ≡ firstFactor (linkCount b) R (b .parents) (e′ .factors)
+  first-factor-same = firstOf-same (linkCount b) _ _ bad-factor-same
 
   verdict-same : (ring number table : ℕ) → enterVerdict b ring number e table ≡ enterVerdict b ring number e′ table
   unfolding entryVerdict
@@ -146,6 +159,7 @@ module _ (b : Book) (e e′ : Entry) (same : Alike b e e′) where
       prices = λ r m h l u. same .prices r m h l (omega (arith, a .marks r h, eqb-false (getD (e .offer .marked) r 0) 1 u));
       schedule = λ r m h l u. same .schedule r m h l (eqb-true (getD (e .offer .marked) r 0) 1 u);
       linked = same .linked;
+      extra = same .extra;
     }
 
   accepted-same : (ring : List ℤ) (number table : ℕ) → Accepts b (length ring) number e table → acceptance b ring e ≡ acceptance b ring e′

@@ -12,7 +12,7 @@ use Rattle.book.specs.declared.record.Book.{Book}
 use Rattle.book.specs.declared.record.Refusal.{Refusal}
 use Rattle.book.specs.declared.record.Answer.{Answer}
 use Rattle.book.specs.declared.record.Answer.the-variants.{Accepted, Refused}
-use Rattle.book.specs.Record.{marketsOf, verdict, isAccepted}
+use Rattle.book.specs.Record.{marketsOf, linkCount, verdict, isAccepted}
 use Rattle.book.specs.Validity.{valid}
 use Rattle.book.proofs.Ways.{refusal-is}
 use Rattle.publishing.specs.declared.Terms.{Terms}
@@ -27,24 +27,24 @@ use Rattle.book.proofs.Validities.{valid-is}
 use Rattle.entries.proofs.Accepted.{accepted-entry, terms-ok, offer-ok, links-ok}
 
 -- ---- 15 to 17: `mark`, `price` and `factor` are the first bad places that were found
-module _ (R M : ℕ) (parents : List ℕ) (prices : List ℤ) (marked factors : List ℕ) (mark : ℕ) (e : mark ≡ firstMark R marked) where
-  pub slices-15 : mark < R → refusedAt 15 mark ≡ slicesVerdict R M parents prices marked factors
+module _ (L R M : ℕ) (parents : List ℕ) (prices : List ℤ) (marked factors : List ℕ) (mark : ℕ) (e : mark ≡ firstMark R marked) where
+  pub slices-15 : mark < R → refusedAt 15 mark ≡ slicesVerdict L R M parents prices marked factors
   unfolding slicesVerdict
   slices-15 l = rw (← e, lt-ltb mark R l)
 
   module _ (l : R ≤ mark) (price : ℕ) (p : price ≡ firstPrice R M prices marked) where
-    pub slices-16 : price < R * M → refusedAt 16 price ≡ slicesVerdict R M parents prices marked factors
+    pub slices-16 : price < R * M → refusedAt 16 price ≡ slicesVerdict L R M parents prices marked factors
     unfolding slicesVerdict
     slices-16 h = rw (← e, le-ltb mark R l, ← p, lt-ltb price (R * M) h)
 
-    module _ (h : R * M ≤ price) (factor : ℕ) (f : factor ≡ firstFactor R parents factors) where
-      pub slices-17 : factor < R → refusedAt 17 factor ≡ slicesVerdict R M parents prices marked factors
+    module _ (h : R * M ≤ price) (factor : ℕ) (f : factor ≡ firstFactor L R parents factors) where
+      pub slices-17 : factor < L → refusedAt 17 factor ≡ slicesVerdict L R M parents prices marked factors
       unfolding slicesVerdict
-      slices-17 k = rw (← e, le-ltb mark R l, ← p, le-ltb price (R * M) h, ← f, lt-ltb factor R k)
+      slices-17 k = rw (← e, le-ltb mark R l, ← p, le-ltb price (R * M) h, ← f, lt-ltb factor L k)
 
-      pub slices-0 : R ≤ factor → accepted ≡ slicesVerdict R M parents prices marked factors
+      pub slices-0 : L ≤ factor → accepted ≡ slicesVerdict L R M parents prices marked factors
       unfolding slicesVerdict
-      slices-0 k = rw (← e, le-ltb mark R l, ← p, le-ltb price (R * M) h, ← f, le-ltb factor R k)
+      slices-0 k = rw (← e, le-ltb mark R l, ← p, le-ltb price (R * M) h, ← f, le-ltb factor L k)
 
 -- ---- 10 to 14, each after those before it
 module _ (b : Book) (ring n : ℕ) (e : Entry) (table : ℕ) where
@@ -71,7 +71,7 @@ module _ (b : Book) (ring n : ℕ) (e : Entry) (table : ℕ) where
           unfolding entryVerdict
           enter-14 d = rw (v, l, lt-leb 10000000 (b .entries) t, eq-eqb n (b .entries) k, d)
 
-          pub enter-more : leb (e .offer .kind) 1 ≡ true → slicesVerdict (b .regions) (marketsOf (b .services)) (b .parents) (e .offer .prices) (e .offer .marked) (e .factors) ≡ enterVerdict b ring n e table
+          pub enter-more : leb (e .offer .kind) 1 ≡ true → slicesVerdict (linkCount b) (b .regions) (marketsOf (b .services)) (b .parents) (e .offer .prices) (e .offer .marked) (e .factors) ≡ enterVerdict b ring n e table
           unfolding entryVerdict slicesVerdict
           enter-more d = rw (v, l, lt-leb 10000000 (b .entries) t, eq-eqb n (b .entries) k, d)
 

@@ -7,7 +7,7 @@ use lib.ListN.{length}
 use Rattle.laws.specs.Base.{pick}
 use Rattle.pricing.specs.Verdict.{Verdict, accepted, refused}
 use Rattle.book.specs.declared.record.Book.{Book}
-use Rattle.book.specs.Record.{marketsOf, verdictOf, isAccepted}
+use Rattle.book.specs.Record.{marketsOf, fromOf, toOf, verdictOf, isAccepted}
 use Rattle.book.specs.Validity.{valid}
 use Rattle.publishing.specs.declared.Terms.{Terms}
 use Rattle.publishing.specs.Entry.{Entry}
@@ -20,7 +20,14 @@ use Rattle.counting.specs.Windows.{sumsAfter, countsAfter, nextsAfter, ringAfte
 use Rattle.counting.specs.Periods.{lastOfDay, positionAfter, marksAfter}
 
 abbrev pub shapeOf : Book → Shape
-shapeOf b = record { regions = b .regions; services = b .services; window = b .window; halves = b .halves; parents = b .parents }
+shapeOf b = record {
+  regions = b .regions;
+  services = b .services;
+  window = b .window;
+  halves = b .halves;
+  parents = b .parents;
+  from = fromOf b;
+}
 
 -- what the book brings to publishing: its limits, and the position of this entry
 abbrev pub termsOf : Book → Terms
@@ -30,6 +37,8 @@ termsOf b = record {
   halves = b .halves;
   position = b .position;
   parents = b .parents;
+  from = fromOf b;
+  to = toOf b;
   cap = b .cap;
   floor = b .floor;
 }

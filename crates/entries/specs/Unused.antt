@@ -4,13 +4,13 @@ use Prim.Native.Nat.{ℕ, _<_}
 use lib.IntN.{pos}
 use lib.ListN.{length, getD}
 use Rattle.book.specs.declared.record.Book.{Book}
-use Rattle.book.specs.Record.{marketsOf}
+use Rattle.book.specs.Record.{marketsOf, none, fromOf}
 use Rattle.publishing.specs.Entry.{Entry, flat, schedulePlace}
 use Rattle.entries.specs.Entering.{termsOf}
 
 -- "Unused entry and schedule numbers are not looked at", "A region without a parent has no flow or factor looked at". Looked at are
 -- the five lengths, the kind and the R marks; the prices of unmarked regions; of marked ones the schedule's numbers at this
--- interval's place; the flow and the factor of a region that has a parent. A region whose mark is neither 0 nor 1 has nothing
+-- interval's place; the flow and the factor of a region that has a parent, and the additional link's. A region whose mark is neither 0 nor 1 has nothing
 -- else looked at: 15 refuses the entry. proofs/Unused: entries that are alike come to the same
 pub record Alike (b : Book) (e e′ : Entry) : Type 0 where
   pub prices-length : length (e .offer .prices) ≡ length (e′ .offer .prices)
@@ -27,3 +27,6 @@ pub record Alike (b : Book) (e e′ : Entry) : Type 0 where
       ≡ getD (e′ .offer .schedule) (schedulePlace (termsOf b) (e .offer .kind) r m) (pos 0)
   pub linked : (r : ℕ) → r < b .regions → (getD (b .parents) r 255 ≡ 255 → ⊥)
       → (getD (e .flows) r (pos 0) ≡ getD (e′ .flows) r (pos 0)) × (getD (e .factors) r 0 ≡ getD (e′ .factors) r 0)
+  pub extra : (fromOf b ≡ none → ⊥)
+      → (getD (e .flows) (b .regions) (pos 0) ≡ getD (e′ .flows) (b .regions) (pos 0))
+      × (getD (e .factors) (b .regions) 0 ≡ getD (e′ .factors) (b .regions) 0)

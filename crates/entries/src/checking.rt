@@ -2,14 +2,15 @@
 use book::record::Answer;
 use book::record::Book;
 use book::record::Refusal;
+use book::record::link_count;
 use book::validity::valid;
 ghost use mathlib.Core.Path.{_≡_};
 ghost use mathlib.Core.Bool.{Bool};
-ghost use Prim.Native.Nat.{_*_, _≤_};
+ghost use Prim.Native.Nat.{_+_, _*_, _≤_};
 ghost use lib.ListN.{length};
 ghost use Rattle.book.specs.Record.{verdict};
 ghost use Rattle.publishing.specs.Entry.{entryOf};
-ghost use Rattle.entries.specs.Checking.{lengthsOk, firstMark, firstPrice, firstFactor};
+ghost use Rattle.entries.specs.Checking.{lengthsOk, firstMark, firstPrice, hasFactor, firstFactor};
 ghost use Rattle.entries.specs.Entering.{shapeOf, enterVerdict};
 ghost use Rattle.entries.specs.Working.{slicesVerdict};
 
@@ -49,14 +50,26 @@ fn first_price(regions: usize, markets: usize, prices: &[i32], marked: &[u8]) ->
     found
 }
 
-// The first factor out of range of a region that has a parent, or R.
-fn first_factor(regions: usize, parents: [u8; 8], factors: &[u32]) -> usize
-    requires { ⌜ (regions ≤ 8) × (length (now factors) ≡ regions) ⌝ }
-    ensures { λ r. ⌜ r ≡ firstFactor regions parents (now (factors .entry)) ⌝ }
+// Whether the factor at place r is looked at: of a region that has a parent, and at R the additional link's.
+fn has_factor(regions: usize, parents: [u8; 8], r: usize) -> bool
+    requires { ⌜ (regions ≤ 8) × (r ≤ regions) ⌝ }
+    ensures { λ x. ⌜ x ≡ hasFactor regions parents r ⌝ }
+{
+    if r == regions {
+        return true;
+    }
+    parents[r] != 255
+}
+
+// The first factor out of range of those that are looked at, or how many there are.
+fn first_factor(links: usize, regions: usize, parents: [u8; 8], factors: &[u32]) -> usize
+    requires { ⌜ (regions ≤ 8) × (links ≤ regions + 1) × (length (now factors) ≡ links) ⌝ }
+    ensures { λ r. ⌜ r ≡ firstFactor links regions parents (now (factors .entry)) ⌝ }
 {
     let mut r: usize = 0;
-    while r < regions {
-        if (parents[r] != 255) & !((10000 <= factors[r]) & (factors[r] <= 20000)) {
+    while r < links {
+        let looked = has_factor(regions, parents, r);
+        if looked & !((10000 <= factors[r]) & (factors[r] <= 20000)) {
             return r;
         }
         r += 1;
@@ -66,6 +79,7 @@ fn first_factor(regions: usize, parents: [u8; 8], factors: &[u32]) -> usize
 
 // 15 to 17: the first bad mark, price or factor.
 fn slices_verdict(
+    links: usize,
     regions: usize,
     markets: usize,
     parents: [u8; 8],
@@ -73,9 +87,9 @@ fn slices_verdict(
     marked: &[u8],
     factors: &[u32],
 ) -> Answer
-    requires { ⌜ (regions ≤ 8) × (length (now prices) ≡ regions * markets) ⌝ }
-    requires { ⌜ (length (now marked) ≡ regions) × (length (now factors) ≡ regions) ⌝ }
-    ensures { λ r. ⌜ verdict r ≡ slicesVerdict regions markets parents (now (prices .entry)) (now (marked .entry)) (now (factors .entry)) ⌝ }
+    requires { ⌜ (regions ≤ 8) × (links ≤ regions + 1) × (length (now prices) ≡ regions * markets) ⌝ }
+    requires { ⌜ (length (now marked) ≡ regions) × (length (now factors) ≡ links) ⌝ }
+    ensures { λ r. ⌜ verdict r ≡ slicesVerdict links regions markets parents (now (prices .entry)) (now (marked .entry)) (now (factors .entry)) ⌝ }
 {
     let mark = first_mark(marked);
     if mark < regions {
@@ -85,8 +99,8 @@ fn slices_verdict(
     if price < regions * markets {
         return Answer::Refused(Refusal::Price(price));
     }
-    let factor = first_factor(regions, parents, factors);
-    if factor < regions {
+    let factor = first_factor(links, regions, parents, factors);
+    if factor < links {
         return Answer::Refused(Refusal::Factor(factor));
     }
     Answer::Accepted
@@ -107,11 +121,12 @@ fn lengths_ok(
 {
     let regions = book.regions as usize;
     let size = regions * (book.services as usize + 1);
+    let links = link_count(book);
     (ring == size * book.window as usize)
         & (prices.len() == size)
         & (marked.len() == regions)
-        & (flows.len() == regions)
-        & (factors.len() == regions)
+        & (flows.len() == links)
+        & (factors.len() == links)
         & (schedule.len() == size * 2 * book.halves as usize)
         & (table == size)
 }
@@ -149,5 +164,6 @@ pub(crate) fn enter_verdict(
     let regions = book.regions as usize;
     let markets = book.services as usize + 1;
     let parents = book.parents;
-    slices_verdict(regions, markets, parents, prices, marked, factors)
+    let links = factors.len();
+    slices_verdict(links, regions, markets, parents, prices, marked, factors)
 }

@@ -44,6 +44,8 @@ fn terms_of(book: Book) -> Terms
         halves: book.halves as usize,
         position: book.position as usize,
         parents,
+        from: 255,
+        to: 255,
         cap: book.cap,
         floor: book.floor,
     }

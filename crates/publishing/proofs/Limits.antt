@@ -19,6 +19,7 @@ use Rattle.laws.proofs.Tests.{and-left, and-right, true-is, by-test}
 use Rattle.laws.proofs.Lists.{getD-tabulate, tabulate-same, at-any}
 use Rattle.pricing.specs.Holding.{limitsOk}
 use Rattle.pricing.specs.Carrying.{Factor}
+use Rattle.book.proofs.Ways.{links-least, links-more}
 use Rattle.routes.specs.declared.Limit.{Limit}
 use Rattle.routes.specs.declared.Limit.the-variants.{Open, Bound}
 use Rattle.pricing.specs.Passing.{fine, cents}
@@ -26,13 +27,13 @@ use Rattle.pricing.proofs.Passings.{cents-size, fine-size, fine-above, fine-bel
 use Rattle.routes.specs.Limits.{own}
 use Rattle.routes.specs.Links.{powerOf, powersOf}
 use Rattle.routes.specs.Routes.{limitOf}
-use Rattle.routes.specs.Search.{Linked, Sized, Searched}
+use Rattle.routes.specs.Search.{Linked, Sized, Lent-links, Searched}
 use Rattle.routes.proofs.Routes.{limit-same}
 use Rattle.routes.proofs.Links.{Child, power-table, power-linked}
 use Rattle.routes.proofs.Limits.{open-not, bound-same}
 use Rattle.routes.proofs.Sizes.{Kept, limit-kept, limit-small, cap-above as cap-kept, floor-below as floor-kept}
 use Rattle.publishing.specs.declared.Terms.{Terms}
-use Rattle.publishing.specs.Entry.{Offer, Terms-ok, Links-ok}
+use Rattle.publishing.specs.Entry.{Offer, Terms-ok, Links-ok, networkOf}
 use Rattle.publishing.specs.Bounds.{hasLimit, inCents, limit, atMost, atLeast}
 use Rattle.publishing.specs.Working.{boundOf, Small, Fine, sources, boundsOf}
 
@@ -137,20 +138,20 @@ child-linked t flows factors links r i c = links .linked r i (λ e. c (parent-re
 
 -- the limit of a region where the regions that pass a test are sources
 abbrev pub limitBy : Bool → Terms → List ℤ → List ℕ → (ℕ → Bool) → ℕ → Limit
-limitBy caps t flows factors test = limitOf caps (powerOf (t .parents) flows factors) (λ x. pick (test x) (Bound (fine (source caps t))) Open) (t .regions)
+limitBy caps t flows factors test = limitOf caps (powerOf (networkOf t) flows factors) (λ x. pick (test x) (Bound (fine (source caps t))) Open) (t .regions)
 
 pub limit-by : (caps : Bool) (t : Terms) (flows : List ℤ) (factors : List ℕ) (test test′ : ℕ → Bool) → ((x : ℕ) → x < t .regions → test x ≡ test′ x)
     → (x : ℕ) → x < t .regions → limitBy caps t flows factors test x ≡ limitBy caps t flows factors test′ x
 limit-by caps t flows factors test test′ e x here =
-    limit-same caps (powerOf (t .parents) flows factors) (powerOf (t .parents) flows factors) _ _ (t .regions) (λ x y i j. refl) (λ y i. rw (e y i)) x here
+    limit-same caps (powerOf (networkOf t) flows factors) (powerOf (networkOf t) flows factors) _ _ (t .regions) (λ x y i j. refl) (λ y i. rw (e y i)) x here
 
 source-kept : (P : ℤ → Type 0) (z : ℤ) → P z → (b : Bool) → Kept P (pick b (Bound z) Open)
 source-kept P z h true = h
 source-kept P z h false = tt
 
 module _ (t : Terms) (ok : Terms-ok t) (flows : List ℤ) (factors : List ℕ) (links : Links-ok t flows factors) where
-  pub linked : (x y : ℕ) → x < t .regions → y < t .regions → Linked (powerOf (t .parents) flows factors x y)
-  linked = power-linked (t .parents) flows factors (t .regions) (ok .regions .1) (child-linked t flows factors links)
+  pub linked : (x y : ℕ) → x < t .regions → y < t .regions → Linked (powerOf (networkOf t) flows factors x y)
+  linked = power-linked (networkOf t) flows factors (ok .regions .1) (child-linked t flows factors links) (links .extra)
 
   module _ (test : ℕ → Bool) (x : ℕ) (here : x < t .regions) where
     -- a limit that a 32-bit number holds in cents
@@ -163,13 +164,13 @@ module _ (t : Terms) (ok : Terms-ok t) (flows : List ℤ) (factors : List ℕ) (
 
         go : (l : Limit) → limitBy caps t flows factors test x ≡ l → Fine l
         go Open e = tt
-        go (Bound z) e = limit-small (powerOf (t .parents) flows factors) (t .regions) (ok .regions .1) linked x here caps 100000000000 _ (λ y i. sized (test y)) e
+        go (Bound z) e = limit-small (powerOf (networkOf t) flows factors) (t .regions) (ok .regions .1) linked x here caps 100000000000 _ (λ y i. sized (test y)) e
 
     -- without a source no limit travels
     pub unbound : (caps : Bool) → ((y : ℕ) → y < t .regions → test y ≡ false) → limitBy caps t flows factors test x ≡ Open
     unbound caps none =
         is-open (limitBy caps t flows factors test x)
-        (limit-kept caps (powerOf (t .parents) flows factors) _ (t .regions) linked (λ n z. ⊥) (λ n f z l h. h) (λ n y i. go (test y) (none y i)) x here)
+        (limit-kept caps (powerOf (networkOf t) flows factors) _ (t .regions) linked (λ n z. ⊥) (λ n f z l h. h) (λ n y i. go (test y) (none y i)) x here)
       where
         is-open : (l : Limit) → Kept (λ z. ⊥) l → l ≡ Open
         is-open Open k = refl
@@ -182,21 +183,31 @@ module _ (t : Terms) (ok : Terms-ok t) (flows : List ℤ) (factors : List ℕ) (
     -- a cap limit stays above 0 and a floor limit below
     pub cap-above : {z : ℤ} → limitBy true t flows factors test x ≡ Bound z → pos 1 ≤ℤ z
     cap-above e =
-        cap-kept (powerOf (t .parents) flows factors) (t .regions) (ok .regions .1) linked x here _
+        cap-kept (powerOf (networkOf t) flows factors) (t .regions) (ok .regions .1) linked x here _
         (λ y i. source-kept (λ z. pos 1 ≤ℤ z) (fine (t .cap)) (fine-above (t .cap) (cap-least t ok)) (test y)) e
 
     pub floor-below : {z : ℤ} → limitBy false t flows factors test x ≡ Bound z → z ≤ℤ negsuc 9999
     floor-below e =
-        floor-kept (powerOf (t .parents) flows factors) (t .regions) (ok .regions .1) linked x here 9999 _
+        floor-kept (powerOf (networkOf t) flows factors) (t .regions) (ok .regions .1) linked x here 9999 _
         (λ y i. source-kept (λ z. z ≤ℤ negsuc 9999) (fine (t .floor)) (fine-below (t .floor) (floor-most t ok)) (test y)) e
+
+-- ---- what the table of powers is made from: R places, and a last one exactly where there is the additional link
+pub lent-links : (t : Terms) → Terms-ok t → (flows : List ℤ) (factors : List ℕ) → Links-ok t flows factors → Lent-links (networkOf t) flows factors
+lent-links t ok flows factors links =
+    let n = links .flows-size in
+    record {
+      few = ok .regions .1;
+      each = rw n (links-least (t .regions) (t .from));
+      last = λ e. rw n (rw (links-more (t .regions) (t .from) e) (omega arith));
+      alike = links .factors-size ∙ sym n;
+    }
 
 -- ---- the search, by the table of powers
 module _ (t : Terms) (ok : Terms-ok t) (flows : List ℤ) (factors : List ℕ) (links : Links-ok t flows factors)
-    {powers : List ℕ} (e : powers ≡ powersOf (t .parents) flows factors) (caps : Bool) {bound : ℤ} (b : bound ≡ fine (source caps t)) where
-  power-at : (x y : ℕ) → x < t .regions → y < t .regions → getD powers (8 * x + y) 0 ≡ powerOf (t .parents) flows factors x y
+    {powers : List ℕ} (e : powers ≡ powersOf (networkOf t) flows factors) (caps : Bool) {bound : ℤ} (b : bound ≡ fine (source caps t)) where
+  power-at : (x y : ℕ) → x < t .regions → y < t .regions → getD powers (8 * x + y) 0 ≡ powerOf (networkOf t) flows factors x y
   power-at x y i j =
-      let n = links .flows-size in
-      rw e (power-table (t .parents) flows factors (omega (arith, ok .regions .1)) x y (omega arith) (omega arith))
+      rw e (power-table (networkOf t) flows factors (ok .regions .1) x y i j)
 
   pub searched : (x : ℕ) → x < t .regions → Searched powers (t .regions) bound x 0
   searched x h = record {

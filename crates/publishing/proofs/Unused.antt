@@ -12,7 +12,7 @@ use Rattle.laws.proofs.Lists.{tabulate-same, countBelow-same}
 use Rattle.routes.proofs.Links.{power-same}
 use Rattle.routes.proofs.Routes.{limit-same}
 use Rattle.publishing.specs.declared.Terms.{Terms}
-use Rattle.publishing.specs.Entry.{Entry, Terms-ok, flat, schedulePlace}
+use Rattle.publishing.specs.Entry.{Entry, Terms-ok, flat, schedulePlace, networkOf}
 use Rattle.publishing.specs.Effective.{isMarked, scheduled, effective}
 use Rattle.publishing.specs.Bounds.{hasLimit, inCents, limit}
 use Rattle.publishing.specs.Published.{published, tableOf, countOf}
@@ -28,6 +28,8 @@ pub record Alike (t : Terms) (a b : Entry) : Type 0 where
       → getD (a .offer .schedule) (schedulePlace t (a .offer .kind) r m) (pos 0) ≡ getD (b .offer .schedule) (schedulePlace t (a .offer .kind) r m) (pos 0)
   pub linked : (r : ℕ) → r < t .regions → (getD (t .parents) r 255 ≡ 255 → ⊥)
       → (getD (a .flows) r (pos 0) ≡ getD (b .flows) r (pos 0)) × (getD (a .factors) r 0 ≡ getD (b .factors) r 0)
+  pub extra : (t .from ≡ 255 → ⊥)
+      → (getD (a .flows) (t .regions) (pos 0) ≡ getD (b .flows) (t .regions) (pos 0)) × (getD (a .factors) (t .regions) 0 ≡ getD (b .factors) (t .regions) 0)
 
 module _ (t : Terms) (ok : Terms-ok t) (marks : List ℕ) (a b : Entry) (same : Alike t a b) where
   scheduled-same : (r m : ℕ) → r < t .regions → m < t .markets → isMarked (a .offer) r ≡ true → scheduled t (a .offer) r m ≡ scheduled t (b .offer) r m
@@ -51,7 +53,7 @@ module _ (t : Terms) (ok : Terms-ok t) (marks : List ℕ) (a b : Entry) (same : 
   unfolding limit
   bound-same caps r h =
       ap inCents (limit-same caps _ _ _ _ (t .regions)
-      (power-same (t .parents) (t .regions) (omega (arith, ok .regions .1)) (a .flows) (b .flows) (a .factors) (b .factors) (same .linked))
+      (power-same (networkOf t) (omega (arith, ok .regions .1)) (a .flows) (b .flows) (a .factors) (b .factors) (same .linked) (same .extra))
       (λ x i. rw (source-same caps x i)) r h)
 
   pub published-same : (r m : ℕ) → r < t .regions → m < t .markets → published t marks a r m ≡ published t marks b r m

@@ -11,7 +11,7 @@ use Rattle.pricing.specs.Passing.{fine, cents}
 use Rattle.routes.specs.Links.{powerOf}
 use Rattle.routes.specs.Routes.{limitOf}
 use Rattle.publishing.specs.declared.Terms.{Terms}
-use Rattle.publishing.specs.Entry.{Offer, Entry}
+use Rattle.publishing.specs.Entry.{Offer, Entry, networkOf}
 use Rattle.publishing.specs.Effective.{effective}
 use Rattle.publishing.specs.Capped.{administered}
 
@@ -34,7 +34,7 @@ inCents (Bound z) = Bound (cents z)
 -- the cent. Published prices are compared with this", so that the tightest is found in ten-thousandths and then rounded
 unfoldable pub limit : Bool → Terms → List ℕ → Entry → ℕ → Limit
 limit caps t marks e region =
-    inCents (limitOf caps (powerOf (t .parents) (e .flows) (e .factors)) (ownLimit caps t marks (e .offer)) (t .regions) region)
+    inCents (limitOf caps (powerOf (networkOf t) (e .flows) (e .factors)) (ownLimit caps t marks (e .offer)) (t .regions) region)
 
 -- "The smallest cap limit and highest floor limit bind energy"
 unfoldable pub atMost : Limit → ℤ → ℤ

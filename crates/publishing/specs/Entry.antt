@@ -8,6 +8,8 @@ use lib.IntN.{ℤ}
 use lib.ListN.{length, getD}
 use Rattle.pricing.specs.Holding.{limitsOk}
 use Rattle.pricing.specs.Carrying.{Factor}
+use Rattle.book.specs.Record.{linksWith}
+use Rattle.routes.specs.declared.Network.{Network}
 use Rattle.publishing.specs.declared.Terms.{Terms}
 
 -- "An entry lends: .. day kind (0 weekday, 1 weekend or holiday), R × M prices (region by region), R marks (1: priced by
@@ -29,6 +31,10 @@ offerOf kind prices marked schedule = record { kind = kind; prices = prices; mar
 abbrev pub entryOf : ℕ → List ℤ → List ℕ → List ℤ → List ℕ → List ℤ → Entry
 entryOf kind prices marked flows factors schedule =
     record { offer = offerOf kind prices marked schedule; flows = flows; factors = factors }
+
+-- the links of the terms' regions
+abbrev pub networkOf : Terms → Network
+networkOf t = record { regions = t .regions; parents = t .parents; from = t .from; to = t .to }
 
 -- a market's place in a slice of R × M numbers, "region by region"
 abbrev pub flat : Terms → ℕ → ℕ → ℕ
@@ -54,6 +60,7 @@ pub record Offer-ok (t : Terms) (o : Offer) : Type 0 where
   pub schedule : length (o .schedule) ≡ t .regions * t .markets * 2 * t .halves
 
 pub record Links-ok (t : Terms) (flows : List ℤ) (factors : List ℕ) : Type 0 where
-  pub flows-size : length flows ≡ t .regions
-  pub factors-size : length factors ≡ t .regions
+  pub flows-size : length flows ≡ linksWith (t .regions) (t .from)
+  pub factors-size : length factors ≡ linksWith (t .regions) (t .from)
   pub linked : (r : ℕ) → r < t .regions → (getD (t .parents) r 0 ≡ 255 → ⊥) → Factor (getD factors r 0)
+  pub extra : (t .from ≡ 255 → ⊥) → Factor (getD factors (t .regions) 0)

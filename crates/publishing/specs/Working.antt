@@ -15,7 +15,7 @@ use Rattle.routes.specs.Limits.{own}
 use Rattle.routes.specs.Links.{powerOf}
 use Rattle.routes.specs.Routes.{limitOf}
 use Rattle.publishing.specs.declared.Terms.{Terms}
-use Rattle.publishing.specs.Entry.{Offer}
+use Rattle.publishing.specs.Entry.{Offer, networkOf}
 use Rattle.publishing.specs.Effective.{effective}
 use Rattle.publishing.specs.Capped.{administered, anyAdministered, cappedBy}
 use Rattle.publishing.specs.Bounds.{hasLimit, inCents}
@@ -44,7 +44,7 @@ sources caps t marks o = tabulate 8 (λ r. pick (ltb r (t .regions)) (hasLimit c
 abbrev pub boundsOf : Bool → Terms → List Bool → List ℤ → List ℕ → List ℤ
 boundsOf caps t sources flows factors =
     tabulate 8 (λ r. pick (ltb r (t .regions))
-    (boundOf caps (inCents (limitOf caps (powerOf (t .parents) flows factors) (own sources (fine (pick caps (t .cap) (t .floor)))) (t .regions) r)))
+    (boundOf caps (inCents (limitOf caps (powerOf (networkOf t) flows factors) (own sources (fine (pick caps (t .cap) (t .floor)))) (t .regions) r)))
     (boundOf caps Open))
 
 -- steps 2 and 4 at a market, by its region's bounds

@@ -1,5 +1,6 @@
 // Steps 1 to 4 of "One interval": effective prices, administered prices, limits over links, the published table and its count.
 use routes::Limit;
+use routes::Network;
 ghost use mathlib.Core.Path.{_≡_};
 ghost use mathlib.Core.Bool.{false};
 ghost use Prim.Native.Nat.{ℕ, _+_, _*_, _≤_, _<_};
@@ -10,20 +11,23 @@ ghost use mir.Val.{SFits};
 ghost use Rattle.laws.specs.Base.{pick, minZ};
 ghost use Rattle.laws.specs.Lists.{anyBelow};
 ghost use Rattle.pricing.specs.Passing.{fine};
-ghost use Rattle.publishing.specs.Entry.{offerOf, entryOf, Terms-ok, Offer-ok, Links-ok};
+ghost use Rattle.publishing.specs.Entry.{offerOf, entryOf, networkOf, Terms-ok, Offer-ok, Links-ok};
 ghost use Rattle.publishing.specs.Effective.{scheduled, effective};
 ghost use Rattle.publishing.specs.Capped.{administered, anyAdministered, cappedBy};
 ghost use Rattle.publishing.specs.Bounds.{hasLimit, inCents};
 ghost use Rattle.publishing.specs.Published.{tableOf, countOf};
 ghost use Rattle.publishing.specs.Working.{Fine, boundOf, sources, boundsOf, publishedBy, regionPrices, regionCount};
 
-// What the book brings to an interval: its shape, its limits and the position. `markets` is M, services and energy.
+// What the book brings to an interval: its shape, its limits and the position. `markets` is M, services and energy; `from` and `to` are the ends
+// of the additional link, or 255.
 pub struct Terms {
     pub regions: usize,
     pub markets: usize,
     pub halves: usize,
     pub position: usize,
     pub parents: [u8; 8],
+    pub from: usize,
+    pub to: usize,
     pub cap: i32,
     pub floor: i32,
 }
@@ -194,6 +198,19 @@ fn source_limit(caps: bool, cap: i32, floor: i32) -> i64
     }
 }
 
+// The links of the terms' regions.
+fn network_of(terms: Terms) -> Network
+    ensures { λ r. ⌜ r ≡ networkOf terms ⌝ }
+{
+    let parents = terms.parents;
+    Network {
+        regions: terms.regions,
+        parents,
+        from: terms.from,
+        to: terms.to,
+    }
+}
+
 // Step 4: the limit that binds each region's energy, as a number. Without a source no limit travels.
 fn bounds(caps: bool, terms: Terms, sources: [bool; 8], flows: &[i32], factors: &[u32]) -> [i32; 8]
     requires { ⌜ Terms-ok terms × Links-ok terms (now flows) (now factors) ⌝ }
@@ -204,8 +221,8 @@ fn bounds(caps: bool, terms: Terms, sources: [bool; 8], flows: &[i32], factors: 
     if !any_source(sources) {
         return all;
     }
-    let parents = terms.parents;
-    let powers = routes::powers(parents, flows, factors);
+    let network = network_of(terms);
+    let powers = routes::powers(network, flows, factors);
     let source = source_limit(caps, terms.cap, terms.floor);
     let mut r: usize = 0;
     while r < terms.regions {

@@ -1,6 +1,6 @@
 -- The power between regions: the table has it at its place, its factors are those of links, and of a region without a parent nothing is looked at.
 -- Assumes nothing.
-use mathlib.Core.Path.{_≡_, refl, sym, _∙_}
+use mathlib.Core.Path.{_≡_, refl, sym, ap, _∙_}
 use mathlib.Core.Bool.{Bool, true, false, _&&_}
 use mathlib.Core.List.{List, [], _∷_}
 use Prim.Native.Nat.{ℕ, zero, suc, _+_, _*_, _/_, _%_, _<_, _≤_}
@@ -15,7 +15,8 @@ use Rattle.laws.proofs.Lists.{getD-tabulate, tabulate-same}
 use Rattle.laws.proofs.Tests.{and-left, and-right}
 use Rattle.pricing.specs.Carrying.{Factor}
 use Rattle.routes.specs.declared.Limit.{Limit}
-use Rattle.routes.specs.Links.{powerOf, powerAt, powersOf}
+use Rattle.routes.specs.declared.Network.{Network}
+use Rattle.routes.specs.Links.{lastFlow, lastFactor, extraOf, powerOf, powerAt, powersOf}
 use Rattle.routes.specs.Routes.{limitOf}
 use Rattle.routes.specs.Search.{Linked}
 use Rattle.routes.proofs.Routes.{limit-same}
@@ -28,69 +29,62 @@ Child parents r = getD parents r 255 ≡ 255 → ⊥
 child : (parents : List ℕ) (x y : ℕ) → y < 255 → eqb (getD parents x 255) y ≡ true → Child parents x
 child parents x y h t e = omega (arith, eqb-true (getD parents x 255) y t)
 
+-- the book has the additional link
+abbrev pub Extra : Network → Type 0
+Extra l = l .from ≡ 255 → ⊥
+
+extra : (l : Network) (x : ℕ) → x < 255 → eqb (l .from) x ≡ true → Extra l
+extra l x h t e = omega (arith, eqb-true (l .from) x t)
+
 -- ---- the table as a function
-module _ (parents : List ℕ) (flows : List ℤ) (factors : List ℕ) (few : length flows ≤ 8) where
-  pub power-table : (x y : ℕ) → x < length flows → y < length flows → getD (powersOf parents flows factors) (8 * x + y) 0 ≡ powerOf parents flows factors x y
+module _ (l : Network) (flows : List ℤ) (factors : List ℕ) (few : l .regions ≤ 8) where
+  pub power-table : (x y : ℕ) → x < l .regions → y < l .regions → getD (powersOf l flows factors) (8 * x + y) 0 ≡ powerOf l flows factors x y
   power-table x y i j =
       let d : (8 * x + y) / 8 ≡ x = omega arith in
       let m : (8 * x + y) % 8 ≡ y = omega arith in
-      getD-tabulate (powerAt parents flows factors (length flows)) 64 (8 * x + y) 0 (omega arith) ∙ rw (d, m, lt-ltb x (length flows) i, lt-ltb y (length flows) j)
+      getD-tabulate (powerAt l flows factors) 64 (8 * x + y) 0 (omega arith) ∙ rw (d, m, lt-ltb x (l .regions) i, lt-ltb y (l .regions) j)
 
-  pub limit-table : (caps : Bool) (own : ℕ → Limit) (x : ℕ) → x < length flows
-      → limitOf caps (λ x y. getD (powersOf parents flows factors) (8 * x + y) 0) own (length flows) x ≡ limitOf caps (powerOf parents flows factors) own (length flows) x
-  limit-table caps own x i = limit-same caps _ _ own own (length flows) power-table (λ y j. refl) x i
+  pub limit-table : (caps : Bool) (own : ℕ → Limit) (x : ℕ) → x < l .regions
+      → limitOf caps (λ x y. getD (powersOf l flows factors) (8 * x + y) 0) own (l .regions) x ≡ limitOf caps (powerOf l flows factors) own (l .regions) x
+  limit-table caps own x i = limit-same caps _ _ own own (l .regions) power-table (λ y j. refl) x i
 
--- ---- factors in range where there is a parent make every power one of a link
-module _ (parents : List ℕ) (flows : List ℤ) (factors : List ℕ) (R : ℕ) (few : R ≤ 8) (inRange : (r : ℕ) → r < R → Child parents r → Factor (getD factors r 0)) where
-  pub power-linked : (x y : ℕ) → x < R → y < R → Linked (powerOf parents flows factors x y)
+-- ---- factors in range where there is a link make every power one of a link
+-- a choice whose test begins with a test t
+pick-linked : (t u : Bool) {f g : ℕ} → (t ≡ true → Factor f) → Linked g → Linked (pick (t && u) f g)
+pick-linked true true h k p = h refl
+pick-linked true false h k p = k p
+pick-linked false u h k p = k p
+
+none-linked : Linked 0
+none-linked p = absurd (omega arith)
+
+module _ (l : Network) (flows : List ℤ) (factors : List ℕ) (few : l .regions ≤ 8) (child-in : (r : ℕ) → r < l .regions → Child (l .parents) r → Factor (getD factors r 0))
+    (extra-in : Extra l → Factor (lastFactor l factors)) where
+  pub power-linked : (x y : ℕ) → x < l .regions → y < l .regions → Linked (powerOf l flows factors x y)
+  unfolding powerOf extraOf
+  power-linked x y i j =
+      pick-linked (eqb (getD (l .parents) x 255) y) (ltZ (pos 0) (getD flows x (pos 0))) (λ e. child-in x i (child (l .parents) x y (omega arith) e))
+      (pick-linked (eqb (getD (l .parents) y 255) x) (ltZ (getD flows y (pos 0)) (pos 0)) (λ e. child-in y j (child (l .parents) y x (omega arith) e))
+      (pick-linked (eqb (l .from) x && eqb (l .to) y) (ltZ (pos 0) (lastFlow l flows)) (λ e. extra-in (extra l x (omega arith) (and-left (eqb (l .from) x) (eqb (l .to) y) e)))
+      (pick-linked (eqb (l .from) y && eqb (l .to) x) (ltZ (lastFlow l flows) (pos 0)) (λ e. extra-in (extra l y (omega arith) (and-left (eqb (l .from) y) (eqb (l .to) x) e))) none-linked)))
+
+-- ---- "A region without a parent has no flow or factor looked at", nor has the place R of a book without the additional link
+module _ (l : Network) (few : l .regions ≤ 255) (flows flows′ : List ℤ) (factors factors′ : List ℕ)
+    (same : (r : ℕ) → r < l .regions → Child (l .parents) r → (getD flows r (pos 0) ≡ getD flows′ r (pos 0)) × (getD factors r 0 ≡ getD factors′ r 0))
+    (last : Extra l → (lastFlow l flows ≡ lastFlow l flows′) × (lastFactor l factors ≡ lastFactor l factors′)) where
+  -- a choice whose test begins with a test t: what follows is looked at only where t holds
+  choice : (t : Bool) {u v : Bool} {f g h k : ℕ} → (t ≡ true → (u ≡ v) × (f ≡ g)) → h ≡ k → pick (t && u) f h ≡ pick (t && v) g k
+  choice true e q = rw (e refl .0, e refl .1, q)
+  choice false e q = q
+
+  extra-same : (x y : ℕ) → x < l .regions → y < l .regions → extraOf l flows factors x y ≡ extraOf l flows′ factors′ x y
+  unfolding extraOf
+  extra-same x y i j =
+      choice (eqb (l .from) x && eqb (l .to) y) (λ e. let q = last (extra l x (omega arith) (and-left _ _ e)) in (ap (ltZ (pos 0)) (q .0), q .1))
+      (choice (eqb (l .from) y && eqb (l .to) x) (λ e. let q = last (extra l y (omega arith) (and-left _ _ e)) in (ap (λ (z : ℤ). ltZ z (pos 0)) (q .0), q .1)) refl)
+
+  pub power-same : (x y : ℕ) → x < l .regions → y < l .regions → powerOf l flows factors x y ≡ powerOf l flows′ factors′ x y
   unfolding powerOf
-  power-linked x y i j = go (eqb (getD parents x 255) y) (ltZ (pos 0) (getD flows x (pos 0))) (eqb (getD parents y 255) x) (ltZ (getD flows y (pos 0)) (pos 0)) refl refl
-    where
-      go : (a b c d : Bool) → eqb (getD parents x 255) y ≡ a → eqb (getD parents y 255) x ≡ c → Linked (pick (a && b) (getD factors x 0) (pick (c && d) (getD factors y 0) 0))
-      go true true c d e f p = inRange x i (child parents x y (omega arith) e)
-      go true false true true e f p = inRange y j (child parents y x (omega arith) f)
-      go true false true false e f p = absurd (omega arith)
-      go true false false d e f p = absurd (omega arith)
-      go false b true true e f p = inRange y j (child parents y x (omega arith) f)
-      go false b true false e f p = absurd (omega arith)
-      go false b false d e f p = absurd (omega arith)
-
-pub table-linked : (parents : List ℕ) (flows : List ℤ) (factors : List ℕ) → length flows ≤ 8 → ((r : ℕ) → r < length flows → Child parents r → Factor (getD factors r 0))
-    → (x y : ℕ) → x < length flows → y < length flows → Linked (getD (powersOf parents flows factors) (8 * x + y) 0)
-table-linked parents flows factors few h x y i j = rw (power-table parents flows factors few x y i j) (power-linked parents flows factors (length flows) few h x y i j)
-
--- ---- "A region without a parent has no flow or factor looked at"
-module _ (parents : List ℕ) (R : ℕ) (few : R ≤ 255) (flows flows′ : List ℤ) (factors factors′ : List ℕ)
-    (same : (r : ℕ) → r < R → Child parents r → (getD flows r (pos 0) ≡ getD flows′ r (pos 0)) × (getD factors r 0 ≡ getD factors′ r 0)) where
-  pub power-same : (x y : ℕ) → x < R → y < R → powerOf parents flows factors x y ≡ powerOf parents flows′ factors′ x y
-  unfolding powerOf
-  power-same x y i j = go (eqb (getD parents x 255) y) (eqb (getD parents y 255) x) refl refl
-    where
-      go : (a c : Bool) → eqb (getD parents x 255) y ≡ a → eqb (getD parents y 255) x ≡ c
-          → pick (a && ltZ (pos 0) (getD flows x (pos 0))) (getD factors x 0) (pick (c && ltZ (getD flows y (pos 0)) (pos 0)) (getD factors y 0) 0)
-          ≡ pick (a && ltZ (pos 0) (getD flows′ x (pos 0))) (getD factors′ x 0) (pick (c && ltZ (getD flows′ y (pos 0)) (pos 0)) (getD factors′ y 0) 0)
-      go true true e f =
-          let p = same x i (child parents x y (omega arith) e) in
-          let q = same y j (child parents y x (omega arith) f) in
-          rw (p .0, p .1, q .0, q .1)
-      go true false e f = let p = same x i (child parents x y (omega arith) e) in rw (p .0, p .1)
-      go false true e f = let q = same y j (child parents y x (omega arith) f) in rw (q .0, q .1)
-      go false false e f = refl
-
-  pub limit-parents : (caps : Bool) (own : ℕ → Limit) (x : ℕ) → x < R → limitOf caps (powerOf parents flows factors) own R x ≡ limitOf caps (powerOf parents flows′ factors′) own R x
-  limit-parents caps own x i = limit-same caps _ _ own own R power-same (λ y j. refl) x i
-
--- so for the whole table
-pub powers-same : (parents : List ℕ) (flows flows′ : List ℤ) (factors factors′ : List ℕ) → length flows ≤ 8 → length flows ≡ length flows′
-    → ((r : ℕ) → r < length flows → Child parents r → (getD flows r (pos 0) ≡ getD flows′ r (pos 0)) × (getD factors r 0 ≡ getD factors′ r 0))
-    → powersOf parents flows factors ≡ powersOf parents flows′ factors′
-powers-same parents flows flows′ factors factors′ few e same =
-    rw (sym e) (tabulate-same 64 _ _ (λ k h. at k (ltb (k / 8) (length flows) && ltb (k % 8) (length flows)) refl))
-  where
-    at : (k : ℕ) (t : Bool) → (ltb (k / 8) (length flows) && ltb (k % 8) (length flows)) ≡ t
-        → pick t (powerOf parents flows factors (k / 8) (k % 8)) 0 ≡ pick t (powerOf parents flows′ factors′ (k / 8) (k % 8)) 0
-    at k true h =
-        power-same parents (length flows) (omega arith) flows flows′ factors factors′ same (k / 8) (k % 8)
-        (ltb-true (k / 8) (length flows) (and-left (ltb (k / 8) (length flows)) (ltb (k % 8) (length flows)) h))
-        (ltb-true (k % 8) (length flows) (and-right (ltb (k / 8) (length flows)) (ltb (k % 8) (length flows)) h))
-    at k false h = refl
+  power-same x y i j =
+      choice (eqb (getD (l .parents) x 255) y) (λ e. let q = same x i (child (l .parents) x y (omega arith) e) in (ap (ltZ (pos 0)) (q .0), q .1))
+      (choice (eqb (getD (l .parents) y 255) x) (λ e. let q = same y j (child (l .parents) y x (omega arith) e) in (ap (λ (z : ℤ). ltZ z (pos 0)) (q .0), q .1)) (extra-same x y i j))

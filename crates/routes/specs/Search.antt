@@ -4,10 +4,11 @@ use mathlib.Core.Bool.{Bool, true, false}
 use mathlib.Core.List.{List}
 use Prim.Native.Nat.{ℕ, zero, suc, _+_, _*_, _≤_, _<_}
 use lib.IntN.{ℤ, natAbs}
-use lib.ListN.{getD, set}
+use lib.ListN.{length, getD, set}
 use Rattle.laws.specs.Base.{pick}
 use Rattle.pricing.specs.Carrying.{Factor}
 use Rattle.routes.specs.declared.Limit.{Limit}
+use Rattle.routes.specs.declared.Network.{Network}
 use Rattle.routes.specs.declared.Limit.the-variants.{Open, Bound}
 use Rattle.routes.specs.Limits.{tighter, over}
 use Rattle.routes.specs.Links.{step}
@@ -34,6 +35,13 @@ Sized b (Bound z) = natAbs z ≤ b
 -- a factor of a link, or 0 for none
 abbrev pub Linked : ℕ → Type 0
 Linked factor = 0 < factor → Factor factor
+
+-- what the table of powers is made from: a place of flows and factors for each region, and a last one for the additional link
+pub record Lent-links (n : Network) (flows : List ℤ) (factors : List ℕ) : Type 0 where
+  pub few : n .regions ≤ 8
+  pub each : n .regions ≤ length flows
+  pub last : (n .from ≡ 255 → ⊥) → n .regions < length flows
+  pub alike : length factors ≡ length flows
 
 -- what the search is given: a table of powers, the limit of a source in ten-thousandths of a cent, a region
 pub record Searched (powers : List ℕ) (R : ℕ) (bound : ℤ) (x left : ℕ) : Type 0 where

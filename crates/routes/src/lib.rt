@@ -5,9 +5,9 @@ ghost use Prim.Native.Nat.{ℕ, _≤_, _<_, _+_, _-_, _*_};
 ghost use lib.ListN.{length, getD};
 ghost use lib.IntN.{natAbs};
 ghost use Rattle.routes.specs.Limits.{tighter, over, own};
-ghost use Rattle.routes.specs.Links.{powerOf, powerAt, powersOf, step};
+ghost use Rattle.routes.specs.Links.{extraOf, powerOf, powerAt, powersOf, step};
 ghost use Rattle.routes.specs.Routes.{limitOf};
-ghost use Rattle.routes.specs.Search.{limitFrom, Sized, Linked, Searched};
+ghost use Rattle.routes.specs.Search.{limitFrom, Sized, Linked, Lent-links, Searched};
 
 // No limit, or a limit in ten-thousandths of a cent.
 pub enum Limit {
@@ -43,13 +43,42 @@ fn over(caps: bool, factor: u32, limit: Limit) -> Limit
     }
 }
 
-// The factor of the link over which power goes from x to y, or 0.
-fn power_of(parents: [u8; 8], flows: &[i32], factors: &[u32], x: usize, y: usize) -> u32
-    requires { ⌜ length (now flows) ≤ 8 ⌝ }
-    requires { ⌜ (x < length (now flows)) × (y < length (now flows)) ⌝ }
-    requires { ⌜ length (now factors) ≡ length (now flows) ⌝ }
-    ensures { λ r. ⌜ r ≡ powerOf parents (now (flows .entry)) (now (factors .entry)) x y ⌝ }
+// The regions of a book and its links: each to its parent, and the additional one from `from` to `to`, or 255 and 255 for none.
+pub struct Network {
+    pub regions: usize,
+    pub parents: [u8; 8],
+    pub from: usize,
+    pub to: usize,
+}
+
+// The factor of the additional link where power goes over it from x to y, or 0. Its flow and factor stand at the last place.
+fn extra_of(network: Network, flows: &[i32], factors: &[u32], x: usize, y: usize) -> u32
+    requires { ⌜ Lent-links network (now flows) (now factors) ⌝ }
+    requires { ⌜ (x < network .regions) × (y < network .regions) ⌝ }
+    ensures { λ r. ⌜ r ≡ extraOf network (now (flows .entry)) (now (factors .entry)) x y ⌝ }
 {
+    if network.from == 255 {
+        return 0;
+    }
+    let last = network.regions;
+    let there = (network.from == x) & (network.to == y) & (0 < flows[last]);
+    let back = (network.from == y) & (network.to == x) & (flows[last] < 0);
+    if there {
+        factors[last]
+    } else if back {
+        factors[last]
+    } else {
+        0
+    }
+}
+
+// The factor of the link over which power goes from x to y, or 0.
+fn power_of(network: Network, flows: &[i32], factors: &[u32], x: usize, y: usize) -> u32
+    requires { ⌜ Lent-links network (now flows) (now factors) ⌝ }
+    requires { ⌜ (x < network .regions) × (y < network .regions) ⌝ }
+    ensures { λ r. ⌜ r ≡ powerOf network (now (flows .entry)) (now (factors .entry)) x y ⌝ }
+{
+    let parents = network.parents;
     let up = (parents[x] as usize == y) & (0 < flows[x]);
     let down = (parents[y] as usize == x) & (flows[y] < 0);
     if up {
@@ -57,34 +86,32 @@ fn power_of(parents: [u8; 8], flows: &[i32], factors: &[u32], x: usize, y: usize
     } else if down {
         factors[y]
     } else {
-        0
+        extra_of(network, flows, factors, x, y)
     }
 }
 
-fn power_at(parents: [u8; 8], flows: &[i32], factors: &[u32], k: usize) -> u32
-    requires { ⌜ (length (now flows) ≤ 8) × (k < 64) ⌝ }
-    requires { ⌜ length (now factors) ≡ length (now flows) ⌝ }
-    ensures { λ r. ⌜ r ≡ powerAt parents (now (flows .entry)) (now (factors .entry)) (length (now (flows .entry))) k ⌝ }
+fn power_at(network: Network, flows: &[i32], factors: &[u32], k: usize) -> u32
+    requires { ⌜ Lent-links network (now flows) (now factors) × (k < 64) ⌝ }
+    ensures { λ r. ⌜ r ≡ powerAt network (now (flows .entry)) (now (factors .entry)) k ⌝ }
 {
     let x = k / 8;
     let y = k % 8;
-    if (x < flows.len()) & (y < flows.len()) {
-        power_of(parents, flows, factors, x, y)
+    if (x < network.regions) & (y < network.regions) {
+        power_of(network, flows, factors, x, y)
     } else {
         0
     }
 }
 
 // The power between every two regions, from x to y at 8 × x + y.
-pub fn powers(parents: [u8; 8], flows: &[i32], factors: &[u32]) -> [u32; 64]
-    requires { ⌜ length (now flows) ≤ 8 ⌝ }
-    requires { ⌜ length (now factors) ≡ length (now flows) ⌝ }
-    ensures { λ r. ⌜ r ≡ powersOf parents (now (flows .entry)) (now (factors .entry)) ⌝ }
+pub fn powers(network: Network, flows: &[i32], factors: &[u32]) -> [u32; 64]
+    requires { ⌜ Lent-links network (now flows) (now factors) ⌝ }
+    ensures { λ r. ⌜ r ≡ powersOf network (now (flows .entry)) (now (factors .entry)) ⌝ }
 {
     let mut all = [0u32; 64];
     let mut k: usize = 0;
     while k < 64 {
-        all[k] = power_at(parents, flows, factors, k);
+        all[k] = power_at(network, flows, factors, k);
         k += 1;
     }
     all

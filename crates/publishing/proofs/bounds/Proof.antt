@@ -15,10 +15,13 @@ use Rattle.laws.specs.Lists.{tabulate}
 use Rattle.laws.proofs.Lists.{tab-none, tab-step, tab-below}
 use Rattle.routes.specs.declared.Limit.{Limit}
 use Rattle.routes.specs.declared.Limit.the-variants.{Open}
+use Rattle.routes.specs.declared.Network.{Network}
+use Rattle.routes.specs.Links.{powersOf}
 use Rattle.pricing.specs.Passing.{fine}
+use Rattle.publishing.specs.Entry.{networkOf}
 use Rattle.publishing.specs.Bounds.{inCents}
 use Rattle.publishing.specs.Working.{boundOf}
-use Rattle.publishing.proofs.Limits.{source, source-fits, limitBy, small, searched, search-is, all-open}
+use Rattle.publishing.proofs.Limits.{source, source-fits, limitBy, small, lent-links, searched, search-is, all-open}
 use Rattle.publishing.proofs.bounds.Statement.{statement}
 use Rattle.publishing.proofs.bounds.Tie as tie
 
@@ -43,7 +46,16 @@ returns c =
     (sym (c .before .any-source .ensures) ∙ not-true (c .before .any-source .result) (c .if1 .taken))
 
 powers-requires : tie.Need-powers-requires Inv-loop μ-loop
-powers-requires c κs = let s = c .before .before .before .before .before in let n = s .pre .1 .flows-size in (omega (arith, s .pre .0 .regions .1), s .pre .1 .factors-size ∙ sym n)
+powers-requires c κs =
+    let s = c .before .before .before .before .before in
+    rw (c .network-of .ensures) (lent-links (s .args .terms) (s .pre .0) (s .args .flows .now) (s .args .factors .now) (s .pre .1))
+
+-- the table of powers is that of the terms' links
+powered : (c : tie.After-powers Inv-loop μ-loop)
+    → let a = c .before .before .before .before .before .before .args in c .powers .result ≡ powersOf (networkOf (a .terms)) (a .flows .now) (a .factors .now)
+powered c =
+    let a = c .before .before .before .before .before .before .args in
+    c .powers .ensures ∙ ap (λ (n : Network). powersOf n (a .flows .now) (a .factors .now)) (c .before .network-of .ensures)
 
 loop-holds : tie.Need-loop-holds Inv-loop μ-loop
 loop-holds c = (omega arith, refl, tab-none _ _)
@@ -62,7 +74,7 @@ limit-of-requires : tie.Need-limit-of-requires Inv-loop μ-loop
 limit-of-requires c κs =
     let j = c .before .before .before .before in
     let s = j .before .before .before .before .before .before .before .before .before in
-    searched (s .args .terms) (s .pre .0) (s .args .flows .now) (s .args .factors .now) (s .pre .1) (j .before .before .before .powers .ensures) (s .args .caps) (sourced j) _ (omega arith)
+    searched (s .args .terms) (s .pre .0) (s .args .flows .now) (s .args .factors .now) (s .pre .1) (powered (j .before .before .before)) (s .args .caps) (sourced j) _ (omega arith)
 
 -- what the search finds
 found : (c : tie.After-limit-of Inv-loop μ-loop)
@@ -72,7 +84,7 @@ found c =
     let j = c .before .before .before .before .before in
     let s = j .before .before .before .before .before .before .before .before .before in
     c .limit-of .ensures
-    ∙ search-is (s .args .terms) (s .pre .0) (s .args .flows .now) (s .args .factors .now) (s .pre .1) (j .before .before .before .powers .ensures) (s .args .caps) (sourced j) (s .args .sources) _ (omega arith)
+    ∙ search-is (s .args .terms) (s .pre .0) (s .args .flows .now) (s .args .factors .now) (s .pre .1) (powered (j .before .before .before)) (s .args .caps) (sourced j) (s .args .sources) _ (omega arith)
 
 bound-of-requires-2 : tie.Need-bound-of-requires-2 Inv-loop μ-loop
 bound-of-requires-2 c κs =
@@ -120,6 +132,7 @@ bounds-spec =
     (λ c κs. search needs)
     (λ c κs. search needs)
     returns
+    (λ c κs. search needs)
     powers-requires
     (λ c κs. search needs)
     loop-holds

@@ -1,8 +1,6 @@
 -- `routes::power_at` meets its contract. Assumes nothing.
 use Prim.Native.Nat.{_/_, _%_, _<_}
-use native.Mathlib.Omega.{arith}
 use lib.Dec.{ltb}
-use lib.ListN.{length}
 use borrow.Author.Tests.{ltb-true}
 use Rattle.laws.proofs.Tests.{and-left, and-right}
 use Rattle.routes.proofs.power_at.Statement.{statement}
@@ -10,12 +8,12 @@ use Rattle.routes.proofs.power_at.Tie as tie
 
 power-of-requires : tie.Need-power-of-requires
 power-of-requires c κs =
-    let s = c .before .before in
-    let n = length (s .args .flows .now) in
+    let s = c .before .before .before .before in
+    let n = s .args .network .regions in
     let k = s .args .k in
     let x : k / 8 < n = ltb-true (k / 8) n (and-left (ltb (k / 8) n) (ltb (k % 8) n) (c .if1 .taken)) in
     let y : k % 8 < n = ltb-true (k % 8) n (and-right (ltb (k / 8) n) (ltb (k % 8) n) (c .if1 .taken)) in
-    (s .pre .0 .0, ((omega arith, omega arith), s .pre .1))
+    (s .pre .0, (x, y))
 
 returns : tie.Need-returns
 returns c = rw (c .before .if1 .taken) (c .power-of .ensures)

@@ -60,37 +60,40 @@ mul-result-2 c = search needs
 shared-slice-read-result-2 : tie.Need-shared-slice-read-result-2
 shared-slice-read-result-2 c = search needs
 
+extra-of-requires : tie.Need-extra-of-requires
+extra-of-requires c κs = let s = c .before .before .before .before .before .before in (s .pre .0, s .pre .1)
+
 returns : tie.Need-returns
 unfolding powerOf
 returns c =
-    let s = c .before .before .before .before .args in
+    let s = c .before .before .before .before .before .before .args in
     let f : SFits w32 (getD (s .flows .now) (s .x) (pos 0)) = search needs in
     let g : SFits w32 (getD (s .flows .now) (s .y) (pos 0)) = search needs in
-    let n : length (s .t1) ≡ 8 = search needs in
-    let up : goesUp (s .t1) (s .flows .now) (s .x) (s .y) ≡ true = simp (toZ-ofZ f, toZ-ofZ g) at (c .before .if1 .taken) in
-    rw (getD-any (s .t1) (s .x) 255 0 (omega arith), getD-any (s .t1) (s .y) 255 0 (omega arith), up)
+    let n : length (s .network .parents) ≡ 8 = search needs in
+    let up : goesUp (s .network .parents) (s .flows .now) (s .x) (s .y) ≡ true = simp (toZ-ofZ f, toZ-ofZ g) at (c .before .if1 .taken) in
+    rw (getD-any (s .network .parents) (s .x) 255 0 (omega arith), getD-any (s .network .parents) (s .y) 255 0 (omega arith), up)
 
 returns-2 : tie.Need-returns-2
 unfolding powerOf
 returns-2 c =
-    let s = c .before .before .before .before .before .args in
+    let s = c .before .before .before .before .before .before .before .args in
     let f : SFits w32 (getD (s .flows .now) (s .x) (pos 0)) = search needs in
     let g : SFits w32 (getD (s .flows .now) (s .y) (pos 0)) = search needs in
-    let n : length (s .t1) ≡ 8 = search needs in
-    let up : goesUp (s .t1) (s .flows .now) (s .x) (s .y) ≡ false = simp (toZ-ofZ f, toZ-ofZ g) at (c .before .before .if1 .left) in
-    let down : goesDown (s .t1) (s .flows .now) (s .x) (s .y) ≡ true = simp (toZ-ofZ f, toZ-ofZ g) at (c .before .if2 .taken) in
-    rw (getD-any (s .t1) (s .x) 255 0 (omega arith), getD-any (s .t1) (s .y) 255 0 (omega arith), up, down)
+    let n : length (s .network .parents) ≡ 8 = search needs in
+    let up : goesUp (s .network .parents) (s .flows .now) (s .x) (s .y) ≡ false = simp (toZ-ofZ f, toZ-ofZ g) at (c .before .before .if1 .left) in
+    let down : goesDown (s .network .parents) (s .flows .now) (s .x) (s .y) ≡ true = simp (toZ-ofZ f, toZ-ofZ g) at (c .before .if2 .taken) in
+    rw (getD-any (s .network .parents) (s .x) 255 0 (omega arith), getD-any (s .network .parents) (s .y) 255 0 (omega arith), up, down)
 
 returns-3 : tie.Need-returns-3
 unfolding powerOf
 returns-3 c =
-    let s = c .before .before .before .before .args in
+    let s = c .before .before .before .before .before .before .before .args in
     let f : SFits w32 (getD (s .flows .now) (s .x) (pos 0)) = search needs in
     let g : SFits w32 (getD (s .flows .now) (s .y) (pos 0)) = search needs in
-    let n : length (s .t1) ≡ 8 = search needs in
-    let up : goesUp (s .t1) (s .flows .now) (s .x) (s .y) ≡ false = simp (toZ-ofZ f, toZ-ofZ g) at (c .before .if1 .left) in
-    let down : goesDown (s .t1) (s .flows .now) (s .x) (s .y) ≡ false = simp (toZ-ofZ f, toZ-ofZ g) at (c .if2 .left) in
-    rw (getD-any (s .t1) (s .x) 255 0 (omega arith), getD-any (s .t1) (s .y) 255 0 (omega arith), up, down)
+    let n : length (s .network .parents) ≡ 8 = search needs in
+    let up : goesUp (s .network .parents) (s .flows .now) (s .x) (s .y) ≡ false = simp (toZ-ofZ f, toZ-ofZ g) at (c .before .before .if1 .left) in
+    let down : goesDown (s .network .parents) (s .flows .now) (s .x) (s .y) ≡ false = simp (toZ-ofZ f, toZ-ofZ g) at (c .before .if2 .left) in
+    rw (getD-any (s .network .parents) (s .x) 255 0 (omega arith), getD-any (s .network .parents) (s .y) 255 0 (omega arith), up, down) (c .extra-of .ensures)
 
 pub power-of-spec : {M : Type 1} → statement M
 power-of-spec =
@@ -108,6 +111,7 @@ power-of-spec =
     shared-slice-read-result
     mul-result-2
     shared-slice-read-result-2
+    extra-of-requires
     returns
     returns-2
     returns-3)

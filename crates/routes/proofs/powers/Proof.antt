@@ -11,16 +11,16 @@ use Rattle.routes.proofs.powers.Statement.{statement}
 use Rattle.routes.proofs.powers.Tie as tie
 
 abbrev Inv-loop : tie.InvT-loop
-Inv-loop parents flows factors all₀ k₀ all k = (k ≤ 64) × (length all ≡ 64) × (all ≡ tabulate k (powerAt parents flows factors (length flows)) ++ drop k all₀)
+Inv-loop network flows factors all₀ k₀ all k = (k ≤ 64) × (length all ≡ 64) × (all ≡ tabulate k (powerAt network flows factors) ++ drop k all₀)
 
 abbrev μ-loop : tie.MeasureT-loop
-μ-loop parents flows factors all₀ k₀ all k = 64 - k
+μ-loop network flows factors all₀ k₀ all k = 64 - k
 
 loop-holds : tie.Need-loop-holds Inv-loop μ-loop
 loop-holds c = (omega arith, refl, tab-none _ _)
 
 power-at-requires : tie.Need-power-at-requires Inv-loop μ-loop
-power-at-requires c κs = let s = c .before .before .before in ((s .pre .0, omega arith), s .pre .1)
+power-at-requires c κs = let s = c .before .before .before in (s .pre, omega arith)
 
 mul-all : tie.Need-mul-all Inv-loop μ-loop
 mul-all c = omega arith

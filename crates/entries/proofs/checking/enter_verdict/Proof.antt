@@ -1,13 +1,18 @@
 -- `entries::checking::enter_verdict` meets its contract, by a law for each way out. Assumes nothing.
-use mathlib.Core.Path.{_≡_, sym, _∙_}
+use mathlib.Core.Path.{_≡_, refl, sym, ap, _∙_}
+use Prim.Native.Nat.{ℕ, _+_, _≤_}
+use lib.ListN.{length}
 use mathlib.Core.Bool.{true}
 use borrow.Author.Needs.{needs}
 use borrow.Author.Tests.{not-true, not-false}
+use Rattle.book.specs.Record.{marketsOf, fromOf}
 use Rattle.book.specs.Validity.{valid}
+use Rattle.book.proofs.Ways.{links-most}
 use Rattle.book.proofs.Validities.{valid-is}
 use Rattle.publishing.specs.Entry.{Entry, entryOf}
 use Rattle.entries.specs.Checking.{lengthsOk}
 use Rattle.entries.specs.Entering.{shapeOf}
+use Rattle.entries.specs.Working.{slicesVerdict}
 use Rattle.entries.proofs.Accepted.{lengths-are}
 use Rattle.entries.proofs.Verdicts.{enter-10, enter-11, enter-12, enter-13, enter-14, enter-more}
 use Rattle.entries.proofs.checking.enter_verdict.Statement.{statement}
@@ -72,13 +77,18 @@ slices-verdict-requires c κs =
     let s = c .before .before .before .before .before .before .before .before .before .before .before .before .before .before in
     let a = s .args in
     let q = lengths-are (a .book) (a .ring) (entry s) (a .table) (fit (c .before .before .before .before .before .before .before .before)) in
-    ((valid-is (a .book) (ok (c .before .before .before .before .before .before .before .before .before .before)) .regions, q .1), (q .2, q .4))
+    let most : length (a .factors .now) ≤ a .book .regions + 1 = rw (q .4) (links-most (a .book .regions) (fromOf (a .book))) in
+    ((valid-is (a .book) (ok (c .before .before .before .before .before .before .before .before .before .before)) .regions, most, q .1), (q .2, refl))
 
 returns-6 : tie.Need-returns-6
 returns-6 c =
     let s = c .before .before .before .before .before .before .before .before .before .before .before .before .before .before .before in
     let a = s .args in
-    c .slices-verdict .ensures ∙ enter-more (a .book) (a .ring) (a .number) (entry s) (a .table) (ok (c .before .before .before .before .before .before .before .before .before .before .before)) (fit (c .before .before .before .before .before .before .before .before .before)) (c .before .before .before .before .before .before .before .if3 .left) (c .before .before .before .before .before .if4 .left) (not-false _ (c .before .before .before .before .if5 .left))
+    let q = lengths-are (a .book) (a .ring) (entry s) (a .table) (fit (c .before .before .before .before .before .before .before .before .before)) in
+    let book = a .book in
+    c .slices-verdict .ensures
+    ∙ ap (λ (n : ℕ). slicesVerdict n (book .regions) (marketsOf (book .services)) (book .parents) (a .prices .now) (a .marked .now) (a .factors .now)) (q .4)
+    ∙ enter-more (a .book) (a .ring) (a .number) (entry s) (a .table) (ok (c .before .before .before .before .before .before .before .before .before .before .before)) (fit (c .before .before .before .before .before .before .before .before .before)) (c .before .before .before .before .before .before .before .if3 .left) (c .before .before .before .before .before .if4 .left) (not-false _ (c .before .before .before .before .if5 .left))
 
 pub enter-verdict-spec : {M : Type 1} → statement M
 enter-verdict-spec =

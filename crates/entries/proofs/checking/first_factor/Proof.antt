@@ -5,23 +5,22 @@ use Prim.Native.Nat.{ℕ, _≤_, _<_, _-_}
 use native.Mathlib.Omega.{arith}
 use borrow.Author.Count.{below-more}
 use borrow.Author.Needs.{needs}
-use lib.ListN.{length}
-use Rattle.laws.proofs.Lists.{getD-any, firstOf-found, firstOf-none}
+use Rattle.laws.proofs.Lists.{firstOf-found, firstOf-none}
 use Rattle.entries.specs.Checking.{badFactor}
 use Rattle.entries.proofs.checking.first_factor.Statement.{statement}
 use Rattle.entries.proofs.checking.first_factor.Tie as tie
 
 abbrev Inv-loop : tie.InvT-loop
-Inv-loop regions factors parents r₀ r = (r ≤ regions) × ((i : ℕ) → i < r → badFactor parents factors i ≡ false)
+Inv-loop links regions parents factors r₀ r = (r ≤ links) × ((i : ℕ) → i < r → badFactor regions parents factors i ≡ false)
 
 abbrev μ-loop : tie.MeasureT-loop
-μ-loop regions factors parents r₀ r = regions - r
+μ-loop links regions parents factors r₀ r = links - r
 
 loop-holds : tie.Need-loop-holds Inv-loop μ-loop
 loop-holds c = (omega arith, λ i h. absurd (omega arith))
 
-array-read-if1 : tie.Need-array-read-if1 Inv-loop μ-loop
-array-read-if1 c = omega arith
+has-factor-requires : tie.Need-has-factor-requires Inv-loop μ-loop
+has-factor-requires c κs = search needs
 
 mul-if1 : tie.Need-mul-if1 Inv-loop μ-loop
 mul-if1 c = omega arith
@@ -37,10 +36,9 @@ shared-slice-read-if1-2 c = omega arith
 
 returns : tie.Need-returns Inv-loop μ-loop
 returns c =
-    let l = c .before .before .before .before .loop in
-    let s = c .before .before .before .before .before in
-    let n : length (s .args .t2) ≡ 8 = search needs in
-    sym (firstOf-found _ (l .r) _ (omega arith) (l .inv .1) (rw (getD-any (s .args .t2) (l .r) 255 0 (omega arith)) (c .if1 .taken)))
+    let l = c .before .before .before .before .before .loop in
+    let looked = c .before .before .before .has-factor .ensures in
+    sym (firstOf-found _ (l .r) _ (omega arith) (l .inv .1) (rw (← looked) (c .if1 .taken)))
 
 add-r : tie.Need-add-r Inv-loop μ-loop
 add-r c = omega arith
@@ -50,15 +48,14 @@ loop-less c = omega arith
 
 loop-again : tie.Need-loop-again Inv-loop μ-loop
 loop-again c =
-    let l = c .before .before .before .before .loop in
-    let s = c .before .before .before .before .before in
-    let n : length (s .args .t2) ≡ 8 = search needs in
-    (omega arith, below-more _ _ (l .inv .1) (rw (getD-any (s .args .t2) (l .r) 255 0 (omega arith)) (c .if1 .left)))
+    let l = c .before .before .before .before .before .loop in
+    let looked = c .before .before .before .has-factor .ensures in
+    (omega arith, below-more _ _ (l .inv .1) (rw (← looked) (c .if1 .left)))
 
 returns-2 : tie.Need-returns-2 Inv-loop μ-loop
 returns-2 c =
     let l = c .before .loop in
-    let e : l .r ≡ c .before .before .args .regions = omega arith in
+    let e : l .r ≡ c .before .before .before .args .links = omega arith in
     e ∙ sym (firstOf-none _ _ (λ i h. l .inv .1 i (omega arith)))
 
 pub first-factor-spec : {M : Type 1} → statement M
@@ -68,7 +65,7 @@ first-factor-spec =
     Inv-loop
     μ-loop
     loop-holds
-    array-read-if1
+    has-factor-requires
     mul-if1
     shared-slice-read-if1
     mul-if1-2

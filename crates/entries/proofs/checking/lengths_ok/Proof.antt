@@ -1,4 +1,5 @@
 -- `entries::checking::lengths_ok` meets its contract. Assumes nothing.
+use mathlib.Core.Path.{_≡_, refl}
 use Prim.Native.Nat.{_+_, _*_, _≤_}
 use native.Mathlib.Nat.{mul-le-mul}
 use native.Mathlib.Omega.{arith}
@@ -34,25 +35,28 @@ add-size : tie.Need-add-size
 add-size c = search needs
 
 mul-size : tie.Need-mul-size
-mul-size c = omega (arith, sizes (c .before .before) .0)
+mul-size c = omega (arith, sizes (c .before .before .before .before) .0)
+
+link-count-requires : tie.Need-link-count-requires
+link-count-requires c κs = search needs
 
 cast-result : tie.Need-cast-result
 cast-result c = search needs
 
 mul-result : tie.Need-mul-result
-mul-result c = omega (arith, sizes (c .before .before .before) .1)
+mul-result c = omega (arith, sizes (c .before .before .before .before .before .before) .1)
 
 mul-result-2 : tie.Need-mul-result-2
-mul-result-2 c = omega (arith, sizes (c .before .before .before) .0)
+mul-result-2 c = omega (arith, sizes (c .before .before .before .before .before .before) .0)
 
 cast-result-2 : tie.Need-cast-result-2
 cast-result-2 c = search needs
 
 mul-result-3 : tie.Need-mul-result-3
-mul-result-3 c = omega (arith, sizes (c .before .before .before .before) .2)
+mul-result-3 c = omega (arith, sizes (c .before .before .before .before .before .before .before) .2)
 
 returns : tie.Need-returns
-returns c = search needs
+returns c = rw (← c .before .before .link-count .ensures) refl
 
 pub lengths-ok-spec : {M : Type 1} → statement M
 lengths-ok-spec =
@@ -62,6 +66,7 @@ lengths-ok-spec =
     cast-size
     add-size
     mul-size
+    link-count-requires
     cast-result
     mul-result
     mul-result-2

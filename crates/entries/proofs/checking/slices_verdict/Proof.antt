@@ -15,7 +15,7 @@ first-mark-requires : tie.Need-first-mark-requires
 first-mark-requires c κs = search needs
 
 returns : tie.Need-returns
-returns c = slices-15 _ _ _ _ _ _ _ (mark-is (c .before)) (c .if1 .taken)
+returns c = slices-15 _ _ _ _ _ _ _ _ (mark-is (c .before)) (c .if1 .taken)
 
 first-price-requires : tie.Need-first-price-requires
 first-price-requires c κs = search needs
@@ -24,7 +24,7 @@ mul-if2 : tie.Need-mul-if2
 mul-if2 c = search needs
 
 returns-2 : tie.Need-returns-2
-returns-2 c = let e = c .before .before in slices-16 _ _ _ _ _ _ _ (mark-is (e .before)) (e .if1 .left) _ (c .before .first-price .ensures) (c .if2 .taken)
+returns-2 c = let e = c .before .before in slices-16 _ _ _ _ _ _ _ _ (mark-is (e .before)) (e .if1 .left) _ (c .before .first-price .ensures) (c .if2 .taken)
 
 first-factor-requires : tie.Need-first-factor-requires
 first-factor-requires c κs = search needs
@@ -33,13 +33,13 @@ returns-3 : tie.Need-returns-3
 returns-3 c =
     let d = c .before .before in
     let e = d .before .before in
-    slices-17 _ _ _ _ _ _ _ (mark-is (e .before)) (e .if1 .left) _ (d .before .first-price .ensures) (d .if2 .left) _ (c .before .first-factor .ensures) (c .if3 .taken)
+    slices-17 _ _ _ _ _ _ _ _ (mark-is (e .before)) (e .if1 .left) _ (d .before .first-price .ensures) (d .if2 .left) _ (c .before .first-factor .ensures) (c .if3 .taken)
 
 returns-4 : tie.Need-returns-4
 returns-4 c =
     let d = c .before .before in
     let e = d .before .before in
-    slices-0 _ _ _ _ _ _ _ (mark-is (e .before)) (e .if1 .left) _ (d .before .first-price .ensures) (d .if2 .left) _ (c .before .first-factor .ensures) (c .if3 .left)
+    slices-0 _ _ _ _ _ _ _ _ (mark-is (e .before)) (e .if1 .left) _ (d .before .first-price .ensures) (d .if2 .left) _ (c .before .first-factor .ensures) (c .if3 .left)
 
 pub slices-verdict-spec : {M : Type 1} → statement M
 slices-verdict-spec =
