@@ -8,6 +8,7 @@ use lib.ListN.{replicate}
 use Rattle.laws.specs.Base.{pick}
 use Rattle.pricing.specs.Verdict.{Verdict, accepted, refused, refusedAt}
 use Rattle.book.specs.declared.record.Book.{Book}
+use Rattle.book.specs.declared.record.Settings.{Settings}
 use Rattle.book.specs.declared.record.Refusal.{Refusal}
 use Rattle.book.specs.declared.record.Refusal.the-variants.{Invalid, Length, Full, Number, Kind, Mark, Price, Factor, Threshold, Limits, Setting, Market, Sums, Buffer, ImageLength, ImageKind, ImageField, ImageTotal, Broken, RecordKind, RecordRegion, PlannedPrice, Hundreds, RecordOrder, BilledEnergy, ImageFirst}
 use Rattle.book.specs.declared.record.Answer.{Answer}
@@ -60,6 +61,13 @@ fromOf b = none
 
 unfoldable pub toOf : Book → ℕ
 toOf b = none
+
+-- and the ends that a book is opened with
+unfoldable pub openedFrom : Settings → ℕ
+openedFrom s = none
+
+unfoldable pub openedTo : Settings → ℕ
+openedTo s = none
 
 -- and neither the link's record nor the second kind of image is known yet. What is proved of them holds either way
 unfoldable pub linksKnown : Bool

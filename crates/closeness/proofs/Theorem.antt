@@ -15,7 +15,7 @@ use Rattle.routes.specs.declared.Limit.the-variants.{Open, Bound}
 use Rattle.routes.specs.Links.{powerOf}
 use Rattle.routes.proofs.Limits.{open-not, bound-same}
 use Rattle.publishing.specs.declared.Terms.{Terms}
-use Rattle.publishing.specs.Entry.{Entry, Terms-ok, Links-ok}
+use Rattle.publishing.specs.Entry.{Entry, Terms-ok, Links-ok, networkOf}
 use Rattle.publishing.specs.Bounds.{hasLimit, inCents, limit}
 use Rattle.publishing.proofs.Limits.{source, limitBy, in-cents-at, linked}
 use Rattle.book.proofs.Validities.{valid-is}
@@ -40,7 +40,7 @@ cents-no-looser false x y h = cents-mono y x h
 module _ (caps : Bool) (t : Terms) (ok : Terms-ok t) (marks : List ℕ) (e : Entry) (links : Links-ok t (e .flows) (e .factors))
     (region : ℕ) (here : region < t .regions) where
   abbrev power : ℕ → ℕ → ℕ
-  power = powerOf (t .parents) (e .flows) (e .factors)
+  power = powerOf (networkOf t) (e .flows) (e .factors)
 
   abbrev units : Limit
   units = limitBy caps t (e .flows) (e .factors) (hasLimit caps t marks (e .offer)) region

@@ -10,7 +10,7 @@ use Rattle.pricing.specs.Passing.{passed}
 use Rattle.routes.specs.Links.{powerOf, step}
 use Rattle.routes.specs.Routes.{unseen, Simple}
 use Rattle.publishing.specs.declared.Terms.{Terms}
-use Rattle.publishing.specs.Entry.{Entry}
+use Rattle.publishing.specs.Entry.{Entry, networkOf}
 use Rattle.publishing.specs.Bounds.{hasLimit}
 use Rattle.closeness.specs.Exact.{Close}
 
@@ -31,7 +31,7 @@ Powered (factor ∷ factors) = (0 < factor) × Powered factors
 
 -- the factors along a route of an interval
 abbrev pub linksOf : Bool → Terms → Entry → ℕ → List ℕ → List ℕ
-linksOf caps t e region route = factorsOn caps (powerOf (t .parents) (e .flows) (e .factors)) region route
+linksOf caps t e region route = factorsOn caps (powerOf (networkOf t) (e .flows) (e .factors)) region route
 
 -- a route that brings a limit to a region: it visits no region twice, its source has the limit (step 3), and power goes over its links
 pub record Brings (caps : Bool) (t : Terms) (marks : List ℕ) (e : Entry) (region : ℕ) (route : List ℕ) : Type 0 where
