@@ -33,7 +33,7 @@ use face::taken_of;
 use face::written_of;
 use image::loading::check;
 use image::loading::load;
-use image::storing::store;
+use image::storing::store_kind_1;
 use interval_rewriter::rewriting::rewrite_interval;
 use interval_writer::writing::write_interval;
 use intervals::reading::read_interval;
@@ -158,9 +158,9 @@ pub extern "C" fn guxhamole_enter(
 // The image as the first bytes of `image`; the bytes after it stay.
 #[no_mangle]
 pub extern "C" fn guxhamole_store(book: Book, ring: &[i32], image: &mut [u8]) -> Written
-    ensures { λ r. ⌜ storedOf r book (now (image .exit)) ≡ stored book (now (ring .entry)) (now (image .entry)) ⌝ }
+    ensures { λ r. ⌜ storedOf r book (now (image .exit)) ≡ stored false book (now (ring .entry)) (now (image .entry)) ⌝ }
 {
-    let stored = store(book, ring, image);
+    let stored = store_kind_1(book, ring, image);
     let answer = stored.image;
     written_of(answer)
 }

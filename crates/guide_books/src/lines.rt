@@ -21,7 +21,7 @@ use book_calls::setting::set_threshold;
 use codec::bits32;
 use entries::enter;
 use image::loading::load;
-use image::storing::store;
+use image::storing::store_kind_1;
 use planning::Left;
 use planning::intervals_left;
 use stage::printing::amount;
@@ -79,7 +79,7 @@ fn imaged(settings: Settings, ring: &mut [i32], image: &mut [u8]) {
     let o = open(open_with, ring);
     let mut book = o.book;
     book.threshold = settings.threshold;
-    store(book, ring, image);
+    store_kind_1(book, ring, image);
 }
 
 fn loaded(ring: &mut [i32], text: &[u8], at: usize, parents_at: usize) -> Book {

@@ -1,6 +1,7 @@
 -- Pairs of books with their calls, computed: some tell region 1 the same, whose reports are then the same; the others show what happens where
 -- a hypothesis of `Isolation` fails. `everything` and `otherwise` have calls of every kind, and the theorem is applied to them. Assumes nothing.
 use mathlib.Core.Path.{_≡_, refl, sym, ap, _∙_}
+use mathlib.Core.Bool.{false}
 use mathlib.Core.List.{List, [], _∷_, _++_}
 use Prim.Native.Nat.{ℕ, zero, suc, _<_}
 use native.Mathlib.Omega.{arith}
@@ -16,13 +17,13 @@ use Rattle.pricing.specs.Carrying.{carried}
 use Rattle.pricing.specs.Passing.{cents}
 use Rattle.book.specs.declared.record.Book.{Book}
 use Rattle.book.specs.declared.record.Settings.{Settings}
-use Rattle.book.specs.Record.{marketsOf}
+use Rattle.book.specs.Record.{marketsOf, fromOf, toOf, linksKnown}
 use Rattle.book.specs.Validity.{valid}
 use Rattle.book_calls.specs.Opening.{opened, openVerdict, fresh}
 use Rattle.book_calls.specs.Setting.{thresholdVerdict, limitsVerdict, setThreshold, setLimits}
 use Rattle.book_calls.specs.Report.{reportOf, reportVerdict}
 use Rattle.routes.specs.Limits.{tighter, over}
-use Rattle.routes.specs.Links.{powerOf}
+use Rattle.routes.specs.Links.{extraOf, powerOf}
 use Rattle.routes.specs.Routes as Routes
 use Rattle.publishing.specs.Entry.{entryOf}
 use Rattle.publishing.specs.Effective.{scheduled, effective}
@@ -177,7 +178,7 @@ everything = record {
       -- region 1 is marked
       ∷ of-two 1 (pos 100000 ∷ pos 1 ∷ pos 99 ∷ pos 99 ∷ []) 1
       ∷ threshold (pos 150000)
-      ∷ restart (replicate 200 255) (replicate 8 (negsuc 4))
+      ∷ restart false (replicate 200 255) (replicate 8 (negsuc 4))
       ∷ report 0 0
       ∷ of-two 2 (pos 5 ∷ pos 5 ∷ pos 80000 ∷ pos 5 ∷ []) 0
       -- refused: 13
@@ -189,7 +190,7 @@ abbrev otherwise : Side
 otherwise = record {
   start =
       loads
-      (imageOf (fresh (settingsOf 3 1 2 1 4 (λ r. getD (255 ∷ 0 ∷ 1 ∷ []) r 255) (pos 90000) (pos 10) (negsuc 9))) [])
+      (imageOf false (fresh (settingsOf 3 1 2 1 4 (λ r. getD (255 ∷ 0 ∷ 1 ∷ []) r 255) (pos 90000) (pos 10) (negsuc 9))) [])
       (replicate 12 (negsuc 7));
   calls =
       of-three 0 (pos 0 ∷ pos 0 ∷ pos 70000 ∷ pos 95000 ∷ pos 100000 ∷ pos 2 ∷ []) 0
@@ -198,11 +199,11 @@ otherwise = record {
       ∷ limits (pos 30000) (negsuc 0)
       ∷ of-three 1 (pos 0 ∷ pos 0 ∷ negsuc 2147483647 ∷ negsuc 0 ∷ pos 100000 ∷ pos 2 ∷ []) 1
       ∷ threshold (pos 150000)
-      ∷ restart (replicate 300 0) (replicate 12 (pos 4))
+      ∷ restart false (replicate 300 0) (replicate 12 (pos 4))
       ∷ report 2 1
       ∷ of-three 2 (pos 0 ∷ pos 0 ∷ pos 80000 ∷ pos 5 ∷ negsuc 8 ∷ pos 2 ∷ []) 0
       -- refused: 11
-      ∷ restart (replicate 300 0) (replicate 11 (pos 4))
+      ∷ restart false (replicate 300 0) (replicate 11 (pos 4))
       ∷ of-three 3 (pos 0 ∷ pos 0 ∷ pos 90000 ∷ pos 5 ∷ negsuc 8 ∷ pos 2 ∷ []) 0 ∷ [];
 }
 
@@ -263,7 +264,7 @@ record Computed : Type 0 where
   mark : figures marked ≡ are (of-suspension ∷ []) (row (pos 0) 0 0 ∷ [])
 
 computed : Computed
-unfolding heard reportsOn answers play opened openVerdict valid Entering.entered entryVerdict setThreshold setLimits thresholdVerdict limitsVerdict run firstOf countBelow allBelow anyBelow total reportOf reportVerdict published effective scheduled cappedBy anyAdministered hasLimit limit atMost atLeast powerOf tighter over Routes.limitOf Routes.overAll Routes.routesFrom Routes.along Routes.joined Routes.after minZ maxZ held carried cents inCents rounded nearest stored storeVerdict imageOf values firsts seconds words widths encode le joined sumFrom loaded loadVerdict headVerdict numberAt number decode bookOf badFrom bookFrom ringFrom windowsFrom sumsFrom
+unfolding heard reportsOn answers play opened openVerdict valid Entering.entered entryVerdict setThreshold setLimits thresholdVerdict limitsVerdict run firstOf countBelow allBelow anyBelow total reportOf reportVerdict published effective scheduled cappedBy anyAdministered hasLimit limit atMost atLeast extraOf powerOf tighter over Routes.limitOf Routes.overAll Routes.routesFrom Routes.along Routes.joined Routes.after minZ maxZ held carried cents inCents rounded nearest stored storeVerdict imageOf values firsts seconds words widths encode le joined sumFrom loaded loadVerdict headVerdict numberAt number decode bookOf badFrom bookFrom ringFrom windowsFrom sumsFrom fromOf toOf linksKnown
 computed = record {
   travel = (refl, refl);
   energies = (refl, refl);
@@ -283,13 +284,13 @@ unfolding opened openVerdict thresholdVerdict run allBelow
 everything-begins = record { accepted = refl; fit = refl }
 
 otherwise-begins : Begins (otherwise .start)
-unfolding valid run firstOf allBelow imageOf values firsts seconds words widths encode le joined sumFrom loaded loadVerdict headVerdict numberAt number decode bookOf badFrom bookFrom ringFrom windowsFrom sumsFrom total
+unfolding valid run firstOf allBelow imageOf values firsts seconds words widths encode le joined sumFrom loaded loadVerdict headVerdict numberAt number decode bookOf badFrom bookFrom ringFrom windowsFrom sumsFrom total fromOf toOf linksKnown
 otherwise-begins = record { accepted = refl; fit = record { entries = refl; marks = refl } }
 
 pub everything-isolated : (n market : ℕ) → Reported-alike
     (bookAfter (everything .start) (everything .calls) n)
     (bookAfter (otherwise .start) (otherwise .calls) n) 1 1 market
-unfolding valid run firstOf allBelow imageOf values firsts seconds words widths encode le joined sumFrom loaded loadVerdict headVerdict numberAt number decode bookOf badFrom bookFrom ringFrom windowsFrom sumsFrom total
+unfolding valid run firstOf allBelow imageOf values firsts seconds words widths encode le joined sumFrom loaded loadVerdict headVerdict numberAt number decode bookOf badFrom bookFrom ringFrom windowsFrom sumsFrom total fromOf toOf linksKnown
 everything-isolated =
     isolation (everything .start) (otherwise .start) (everything .calls) (otherwise .calls) 1
     everything-begins otherwise-begins

@@ -83,8 +83,8 @@ module _ (M r : ℕ) where
       by-test (isAccepted (limitsVerdict c f)) (λ t. rw t (joins p (limits-set c f) of-limits refl)) (λ t. rw t (nothing-joins p))
   play-parts p (report a b) =
       by-test (isAccepted (verdictIn (Ledger.play p (report a b) .answer))) (λ t. rw t (nothing-joins p)) (λ t. rw t (nothing-joins p))
-  play-parts p (restart a b) =
-      by-test (isAccepted (verdictIn (Ledger.play p (restart a b) .answer))) (λ t. rw t (nothing-joins p)) (λ t. rw t (nothing-joins p))
+  play-parts p (restart second a b) =
+      by-test (isAccepted (verdictIn (Ledger.play p (restart second a b) .answer))) (λ t. rw t (nothing-joins p)) (λ t. rw t (nothing-joins p))
 
   -- of a list of calls
   after-parts : (L : List Call) (p : Ledger)

@@ -60,7 +60,7 @@ told markets region (entry ring number e table) = toldBy markets region e
 told markets region (threshold x) = of-threshold x
 told markets region (limits c f) = of-limits
 told markets region (report r m) = of-report
-told markets region (restart buffer ring) = of-restart
+told markets region (restart second buffer ring) = of-restart
 
 -- what calls with these answers tell a region, place by place: two lists that tell it the same have "the same kinds of call accepted in the
 -- same places"

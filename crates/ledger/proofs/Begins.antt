@@ -15,7 +15,7 @@ use Rattle.laws.specs.Lists.{run, lastN, anyBelow}
 use Rattle.laws.proofs.Lists.{tabulate-same, tabulate-const, length-run, flat-div}
 use Rattle.book.specs.declared.record.Book.{Book}
 use Rattle.book.specs.declared.record.Settings.{Settings}
-use Rattle.book.specs.Record.{marketsOf, isAccepted}
+use Rattle.book.specs.Record.{marketsOf, fromOf, toOf, openedFrom, openedTo, isAccepted}
 use Rattle.book.specs.Validity.{usedPlace}
 use Rattle.book.proofs.Validities.{Valid, valid-is, is-valid}
 use Rattle.book_calls.specs.Opening as Opening
@@ -67,7 +67,7 @@ module _ (b : Book) (ring : List ℤ) (k : Kept b ring) (sized : Sized b) (eight
   no-order r m h l = rw (flat-div r m (marketsOf (b .services)) l, none-counted r h)
 
   blank-begins : Agree (record { book = b; ring = ring }) (begin (settingsIn b))
-  unfolding entriesOf before lastSet
+  unfolding entriesOf before lastSet fromOf toOf openedFrom openedTo
   blank-begins =
       let none : b .marks ≡ replicate 88 0 = blank .marks in
       record {
@@ -79,6 +79,8 @@ module _ (b : Book) (ring : List ℤ) (k : Kept b ring) (sized : Sized b) (eight
         window = refl;
         halves = refl;
         parents = refl;
+        from = refl;
+        to = refl;
         entries = blank .entries;
         position = first-at (b .position) (6 * b .halves) (f .position);
         threshold = refl;

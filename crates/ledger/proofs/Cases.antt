@@ -1,7 +1,7 @@
 -- The one table of the cases that document 01 marks (*): the numbers that the definitions compute beside those of the paper. The
 -- cases of a book are played on both machines, the book and the ledger P, from an image: no opening takes its threshold. Assumes nothing.
 use mathlib.Core.Path.{_≡_, refl}
-use mathlib.Core.Bool.{true}
+use mathlib.Core.Bool.{true, false}
 use mathlib.Core.List.{List, [], _∷_, _++_}
 use Prim.Native.Nat.{ℕ, _*_}
 use lib.IntN.{ℤ, pos, negsuc}
@@ -22,8 +22,9 @@ use Rattle.book.specs.Validity.{valid}
 use Rattle.book_calls.specs.Opening as Opening
 use Rattle.book_calls.specs.Report as Report
 use Rattle.book_calls.specs.Report.{Numbers}
+use Rattle.book.specs.Record.{fromOf, toOf, openedFrom, openedTo, linksKnown}
 use Rattle.routes.specs.Limits.{tighter, over}
-use Rattle.routes.specs.Links.{powerOf}
+use Rattle.routes.specs.Links.{extraOf, powerOf}
 use Rattle.routes.specs.Routes as Routes
 use Rattle.publishing.specs.Entry.{entryOf}
 use Rattle.publishing.specs.Effective.{scheduled, effective}
@@ -67,7 +68,7 @@ book regions window parents = settingsOf regions 0 window 1 0 (λ r. getD parent
 -- "its list may begin with such an image of a book without entries .., as the worked books of document 01 then do" (request 2026-06):
 -- its image, loaded into a ring that held something
 abbrev start : ℕ → ℕ → List ℕ → Start
-start regions window parents = loads (imageOf (Opening.fresh (book regions window parents)) []) (replicate (regions * window) (pos 7))
+start regions window parents = loads (imageOf false (Opening.fresh (book regions window parents)) []) (replicate (regions * window) (pos 7))
 
 -- both machines from a start: the book, and P
 abbrev pub bothFrom : (List Answer → List ℤ) → Start → List Call → List ℤ
@@ -151,5 +152,5 @@ cases = Pricing.cases ++ (Schedule.cases ++ bookCases)
 
 -- the one test over all of them
 pub cases-agree : agree cases ≡ true
-unfolding agree cases bookCases Pricing.cases Schedule.cases indexed mean sameNumbers answers Ledger.play Book.play entryVerdict entriesOf firstOf run countBelow published Ledger.reportOf atLeast Report.reportVerdict limit total administeredAt Routes.limitOf lastN anyBelow Routes.overAll unmarkedPrices lastSet Routes.routesFrom before tighter allBelow Routes.along hasLimit atMost cappedBy effective Entering.entered Report.reportOf valid over powerOf minZ maxZ held carried cents inCents rounded nearest Routes.joined Routes.after scheduled anyAdministered imageOf values firsts seconds words widths encode le joined sumFrom loaded loadVerdict headVerdict numberAt number decode bookOf badFrom bookFrom ringFrom windowsFrom sumsFrom
+unfolding agree cases bookCases Pricing.cases Schedule.cases indexed mean sameNumbers answers Ledger.play Book.play entryVerdict entriesOf firstOf run countBelow published Ledger.reportOf atLeast Report.reportVerdict limit total administeredAt Routes.limitOf lastN anyBelow Routes.overAll unmarkedPrices lastSet Routes.routesFrom before tighter allBelow Routes.along hasLimit atMost cappedBy effective Entering.entered Report.reportOf valid over extraOf powerOf minZ maxZ held carried cents inCents rounded nearest Routes.joined Routes.after scheduled anyAdministered imageOf values firsts seconds words widths encode le joined sumFrom loaded loadVerdict headVerdict numberAt number decode bookOf badFrom bookFrom ringFrom windowsFrom sumsFrom fromOf toOf openedFrom openedTo linksKnown
 cases-agree = refl

@@ -18,8 +18,9 @@ use Rattle.book.specs.declared.record.Settings.{Settings}
 use Rattle.book.specs.Validity.{valid}
 use Rattle.book_calls.specs.Opening as Opening
 use Rattle.book_calls.specs.Setting.{thresholdVerdict}
+use Rattle.book.specs.Record.{fromOf, toOf, openedFrom, openedTo, linksKnown}
 use Rattle.routes.specs.Limits.{tighter, over}
-use Rattle.routes.specs.Links.{powerOf}
+use Rattle.routes.specs.Links.{extraOf, powerOf}
 use Rattle.routes.specs.Routes as Routes
 use Rattle.publishing.specs.Entry.{entryOf}
 use Rattle.publishing.specs.Effective.{scheduled, effective}
@@ -80,5 +81,5 @@ cases =
 
 -- the one test over the rows
 pub cases-agree : agree cases ≡ true
-unfolding agree cases sameNumbers answers Ledger.play Book.play entryVerdict entriesOf firstOf run countBelow published atLeast limit total administeredAt Routes.limitOf lastN anyBelow Routes.overAll unmarkedPrices lastSet Routes.routesFrom before tighter allBelow Routes.along hasLimit atMost cappedBy effective Opening.opened Opening.openVerdict thresholdVerdict Entering.entered valid over powerOf minZ maxZ held carried cents inCents rounded nearest Routes.joined Routes.after scheduled anyAdministered
+unfolding agree cases sameNumbers answers Ledger.play Book.play entryVerdict entriesOf firstOf run countBelow published atLeast limit total administeredAt Routes.limitOf lastN anyBelow Routes.overAll unmarkedPrices lastSet Routes.routesFrom before tighter allBelow Routes.along hasLimit atMost cappedBy effective Opening.opened Opening.openVerdict thresholdVerdict Entering.entered valid over extraOf powerOf minZ maxZ held carried cents inCents rounded nearest Routes.joined Routes.after scheduled anyAdministered fromOf toOf openedFrom openedTo linksKnown
 cases-agree = refl

@@ -1,7 +1,7 @@
 -- What follows from DEMAND 3 and P's definitions: over every list of calls 10 and 22 never occur, a refused call answers zeros and
 -- changes nothing, restarts make no difference, and at every point a restart is accepted. Assumes nothing.
 use mathlib.Core.Path.{_≡_, refl, sym, ap, ap₂, _∙_, subst}
-use mathlib.Core.Bool.{Bool, true, false, not, _&&_}
+use mathlib.Core.Bool.{Bool, true, false, not, _&&_, _||_}
 use mathlib.Core.List.{List, [], _∷_, _++_}
 use Prim.Native.Nat.{ℕ, zero, suc, _+_, _*_, _≤_}
 use native.Mathlib.Nat.{mul-assoc, mul-comm, mul-le-mul-left, suc-mul}
@@ -17,7 +17,7 @@ use Rattle.pricing.specs.Verdict.{Verdict, accepted, refusedAt}
 use Rattle.pricing.specs.Holding.{limitsOk}
 use Rattle.book.specs.declared.record.Book.{Book}
 use Rattle.book.specs.declared.record.Settings.{Settings}
-use Rattle.book.specs.Record.{marketsOf, tableSize, ringSize, isAccepted}
+use Rattle.book.specs.Record.{marketsOf, tableSize, ringSize, isLinked, linksWith, openedFrom, isAccepted}
 use Rattle.book.specs.Validity.{thresholdOk, valid}
 use Rattle.book_calls.specs.Setting.{inHundreds, thresholdVerdict, limitsVerdict, withSettings, changed, setThreshold, setLimits}
 use Rattle.book_calls.specs.Report.{reportVerdict}
@@ -30,10 +30,10 @@ use Rattle.image.specs.Storing as Storing
 use Rattle.image.specs.Storing.{storeVerdict, stored}
 use Rattle.image.specs.Loading as Loading
 use Rattle.image.specs.Loading.{loaded}
-use Rattle.ledger.specs.Calls.{Call, entry, threshold, limits, report, restart, Answer, entered, set, reported, answers, verdictIn, Never, refusedAnswer, Zeros, withoutRestarts, dropRestarts}
+use Rattle.ledger.specs.Calls.{Call, entry, threshold, limits, report, restart, goesSecond, Answer, entered, set, reported, answers, verdictIn, Never, refusedAnswer, Zeros, withoutRestarts, dropRestarts}
 use Rattle.ledger.specs.Calls.{restarted, Step, after}
 use Rattle.ledger.specs.Ledger as Ledger
-use Rattle.ledger.specs.Ledger.{Ledger, interval, taken, unmarkedPrices, entriesOf, countsTo, imageLength, reportOf, restartVerdict}
+use Rattle.ledger.specs.Ledger.{Ledger, interval, taken, unmarkedPrices, entriesOf, countsTo, imageLength, allowed, reportOf, restartVerdict}
 use Rattle.ledger.specs.Book as Book
 use Rattle.ledger.specs.Book.{Held, isOwn}
 use Rattle.ledger.specs.Demand.{Start, opens, held, settings, Begins, settingsOf, Answers-alike, Demand-3}
@@ -59,14 +59,14 @@ unfolding entryVerdict
 entry-other s taken ring number e table =
     let mark = firstMark (s .regions) (e .offer .marked) in
     let price = firstPrice (s .regions) (marketsOf (s .services)) (e .offer .prices) (e .offer .marked) in
-    let factor = firstFactor (s .regions) (s .parents) (e .factors) in
+    let factor = firstFactor (linksWith (s .regions) (s .from)) (s .regions) (s .parents) (e .factors) in
     other-pick (not (lengthsOk s ring e table)) (by-other 11 0 tt tt)
     (other-pick (leb 10000000 taken) (by-other 12 0 tt tt)
     (other-pick (not (eqb number taken)) (by-other 13 0 tt tt)
     (other-pick (not (leb (e .offer .kind) 1)) (by-other 14 0 tt tt)
     (other-pick (ltb mark (s .regions)) (by-other 15 mark tt tt)
     (other-pick (ltb price (tableSize (s .regions) (s .services))) (by-other 16 price tt tt)
-    (other-pick (ltb factor (s .regions)) (by-other 17 factor tt tt) (by-other 0 0 tt tt)))))))
+    (other-pick (ltb factor (linksWith (s .regions) (s .from))) (by-other 17 factor tt tt) (by-other 0 0 tt tt)))))))
 
 threshold-other : (x : ℤ) → Other (thresholdVerdict x)
 unfolding thresholdVerdict
@@ -82,12 +82,13 @@ report-other : (R S r m : ℕ) → Other (reportVerdict R S r m)
 unfolding reportVerdict
 report-other R S r m = other-pick (not (ltb r R && leb m S)) (by-other 21 0 tt tt) (by-other 0 0 tt tt)
 
-restart-other : (p : Ledger) (buffer ring : ℕ) → Other (restartVerdict p buffer ring)
+restart-other : (second : Bool) (p : Ledger) (buffer ring : ℕ) → Other (restartVerdict second p buffer ring)
 unfolding restartVerdict
-restart-other p buffer ring =
-    other-pick (ltb buffer (imageLength p)) (by-other 23 0 tt tt)
+restart-other second p buffer ring =
+    other-pick (not (allowed second p)) (by-other 47 0 tt tt)
+    (other-pick (ltb buffer (imageLength second p)) (by-other 23 0 tt tt)
     (other-pick (not (eqb ring (ringSize (p .settings .regions) (p .settings .services) (p .settings .window)))) (by-other 11 0 tt tt)
-    (by-other 0 0 tt tt))
+    (by-other 0 0 tt tt)))
 
 -- any answer of P
 answer-other : (p : Ledger) (c : Call) → Other (verdictIn (Ledger.play p c .answer))
@@ -101,7 +102,7 @@ answer-other p (limits c f) = limits-other c f
 answer-other p (report r m) =
     by-test (isAccepted (reportVerdict (p .settings .regions) (p .settings .services) r m))
     (λ t. rw t (by-other 0 0 tt tt)) (λ t. rw t (report-other (p .settings .regions) (p .settings .services) r m))
-answer-other p (restart buffer ring) = restart-other p (length buffer) (length ring)
+answer-other p (restart second buffer ring) = restart-other (goesSecond second) p (length buffer) (length ring)
 
 never-p : (L : List Call) (p : Ledger) → Never 10 (answers Ledger.play p L) × Never 22 (answers Ledger.play p L)
 unfolding answers
@@ -124,7 +125,7 @@ refused-p p (limits c f) h = (rw h, refl)
 refused-p p (report r m) h =
     by-test (isAccepted (reportVerdict (p .settings .regions) (p .settings .services) r m))
     (λ t. absurd (true-is (sym (rw t at h)))) (λ t. rw t (refl, refl))
-refused-p p (restart buffer ring) h = (refl, refl)
+refused-p p (restart second buffer ring) h = (refl, refl)
 
 zeros-p : (L : List Call) (p : Ledger) → Zeros L (answers Ledger.play p L)
 unfolding answers
@@ -142,9 +143,9 @@ restarts-p (entry ring number e table ∷ L) p =
 restarts-p (threshold x ∷ L) p = ap (λ (l : List Answer). set (thresholdVerdict x) ∷ l) (restarts-p L (Ledger.play p (threshold x) .state))
 restarts-p (limits c f ∷ L) p = ap (λ (l : List Answer). set (limitsVerdict c f) ∷ l) (restarts-p L (Ledger.play p (limits c f) .state))
 restarts-p (report r m ∷ L) p = ap (λ (l : List Answer). reported (reportOf p r m) ∷ l) (restarts-p L p)
-restarts-p (restart buffer ring ∷ L) p = restarts-p L p
+restarts-p (restart second buffer ring ∷ L) p = restarts-p L p
 
--- no region counts more than W prices, so that an image is at most 148 + 4 × R × M × W bytes long
+-- no region counts more than W prices, so that an image is at most 148 (of kind 2 156) + 4 × R × M × W bytes long
 counts-most : (p : Ledger) (n : ℕ) → countsTo p n ≤ n * p .settings .window
 unfolding countsTo
 counts-most p zero = omega arith
@@ -156,8 +157,11 @@ counts-most p (suc n) =
 abbrev pub placesOf : Settings → ℕ
 placesOf t = ringSize (t .regions) (t .services) (t .window)
 
-image-most : (p : Ledger) → imageLength p ≤ 148 + 4 * placesOf (p .settings)
-image-most p =
+abbrev pub mostBytes : Bool → Settings → ℕ
+mostBytes second t = pick second 156 148 + 4 * placesOf t
+
+image-most : (second : Bool) (p : Ledger) → imageLength second p ≤ mostBytes second (p .settings)
+image-most second p =
     let R = p .settings .regions in
     let M = marketsOf (p .settings .services) in
     let W = p .settings .window in
@@ -166,11 +170,11 @@ image-most p =
     omega arith
 
 -- "P accepts both calls and does nothing"
-restart-p : (p : Ledger) (buffer : List ℕ) (ring : List ℤ) → length ring ≡ placesOf (p .settings) → imageLength p ≤ length buffer
-    → Ledger.play p (restart buffer ring) ≡ record { state = p; answer = restarted accepted }
+restart-p : (kind : Bool) (p : Ledger) (buffer : List ℕ) (ring : List ℤ) → allowed (goesSecond kind) p ≡ true → length ring ≡ placesOf (p .settings)
+    → imageLength (goesSecond kind) p ≤ length buffer → Ledger.play p (restart kind buffer ring) ≡ record { state = p; answer = restarted accepted }
 unfolding Ledger.play restartVerdict
-restart-p p buffer ring e h =
-    rw (le-ltb (length buffer) (imageLength p) h, eq-eqb (length ring) (placesOf (p .settings)) e)
+restart-p kind p buffer ring k e h =
+    rw (k, le-ltb (length buffer) (imageLength (goesSecond kind) p) h, eq-eqb (length ring) (placesOf (p .settings)) e)
 
 -- two machines that answer a list of calls alike answer its last call alike
 last-alike : {S T : Type 0} (f : S → Call → Step S) (g : T → Call → Step T) (L : List Call) (c : Call) (s : S) (t : T)
@@ -197,9 +201,9 @@ refused-setting s v after h =
     (λ a. rw a)
 
 -- a store hands the book back
-handed : (b : Book) (ring : List ℤ) (buffer : List ℕ) → stored b ring buffer .book ≡ b
+handed : (second : Bool) (b : Book) (ring : List ℤ) (buffer : List ℕ) → stored second b ring buffer .book ≡ b
 unfolding stored
-handed b ring buffer = by-test (isAccepted (storeVerdict b ring (length buffer))) (λ t. rw t) (λ t. rw t)
+handed second b ring buffer = by-test (isAccepted (storeVerdict second b ring (length buffer))) (λ t. rw t) (λ t. rw t)
 
 refused-load : (s : Held) (o : Loading.Outcome) → isAccepted (verdictIn (Book.loads s o .answer)) ≡ false → Book.loads s o .state ≡ s
 refused-load s o h = by-test (isAccepted (o .verdict)) (λ t. absurd (true-is (sym (rw t at h)))) (λ t. rw t)
@@ -218,7 +222,8 @@ refused-b s (entry g number e table) h = refused-entry s g number e table h
 refused-b s (threshold x) h = refused-setting s (thresholdVerdict x) (withSettings (s .book) x (s .book .cap) (s .book .floor)) h
 refused-b s (limits c f) h = refused-setting s (limitsVerdict c f) (withSettings (s .book) (s .book .threshold) c f) h
 refused-b s (report r m) h = refl
-refused-b s (restart buffer g) h = refused-restart s (stored (s .book) (s .ring) buffer) g (handed (s .book) (s .ring) buffer) h
+refused-b s (restart second buffer g) h =
+    let k = goesSecond second in refused-restart s (stored k (s .book) (s .ring) buffer) g (handed k (s .book) (s .ring) buffer) h
 
 -- ---- the base's form: from an opening, whose own accepted answer is all that is asked
 pub from-opening : (regions services window halves first : ℕ) (parents : ℕ → ℕ) (θ cap floor : ℤ) (ring : List ℤ) (L : List Call)
@@ -253,27 +258,29 @@ module _ (start : Start) (b : Begins start) where
 
   -- "A restart is an image stored into a long enough buffer and loaded, from exactly its bytes, into another ring of the right length,
   -- with which L goes on; P accepts both calls and does nothing": at every point of every L, whatever buffer and ring hold. Long enough
-  -- is the length of the image that is stored there
-  pub restart-accepted : (L : List Call) (buffer : List ℕ) (other : List ℤ)
-      → length other ≡ placesOf (settings start) → imageLength (after Ledger.play beginning L) ≤ length buffer
-      → (Book.play (after Book.play (held start) L) (restart buffer other) .answer ≡ restarted accepted)
-      × (Ledger.play (after Ledger.play beginning L) (restart buffer other)
+  -- is the length of the image that is stored there; the kind is one that 47 allows
+  pub restart-accepted : (kind : Bool) (L : List Call) (buffer : List ℕ) (other : List ℤ) → allowed (goesSecond kind) beginning ≡ true
+      → length other ≡ placesOf (settings start) → imageLength (goesSecond kind) (after Ledger.play beginning L) ≤ length buffer
+      → (Book.play (after Book.play (held start) L) (restart kind buffer other) .answer ≡ restarted accepted)
+      × (Ledger.play (after Ledger.play beginning L) (restart kind buffer other)
       ≡ record { state = after Ledger.play beginning L; answer = restarted accepted })
-  restart-accepted L buffer other e h =
+  restart-accepted kind L buffer other k e h =
       let q = after Ledger.play beginning L in
-      let size : length other ≡ placesOf (q .settings) = e ∙ ap placesOf (sym (settings-after L beginning)) in
-      let p = restart-p q buffer other size h in (
-        last-alike Book.play Ledger.play L (restart buffer other) (held start) beginning (same (L ++ restart buffer other ∷ []))
+      let same-settings : q .settings ≡ settings start = settings-after L beginning in
+      let size : length other ≡ placesOf (q .settings) = e ∙ ap placesOf (sym same-settings) in
+      let tells : allowed (goesSecond kind) q ≡ true = ap (λ (t : Settings). goesSecond kind || not (isLinked (openedFrom t))) same-settings ∙ k in
+      let p = restart-p kind q buffer other tells size h in (
+        last-alike Book.play Ledger.play L (restart kind buffer other) (held start) beginning (same (L ++ restart kind buffer other ∷ []))
             ∙ ap (λ (x : Step Ledger). x .answer) p,
         p,
       )
 
-  -- and 148 + 4 × R × M × W bytes are long enough at every point
-  pub restart-always : (L : List Call) (buffer : List ℕ) (other : List ℤ)
-      → length other ≡ placesOf (settings start) → 148 + 4 * placesOf (settings start) ≤ length buffer
-      → (Book.play (after Book.play (held start) L) (restart buffer other) .answer ≡ restarted accepted)
-      × (Ledger.play (after Ledger.play beginning L) (restart buffer other)
+  -- and 148 (of kind 2 156) + 4 × R × M × W bytes are long enough at every point
+  pub restart-always : (kind : Bool) (L : List Call) (buffer : List ℕ) (other : List ℤ) → allowed (goesSecond kind) beginning ≡ true
+      → length other ≡ placesOf (settings start) → mostBytes (goesSecond kind) (settings start) ≤ length buffer
+      → (Book.play (after Book.play (held start) L) (restart kind buffer other) .answer ≡ restarted accepted)
+      × (Ledger.play (after Ledger.play beginning L) (restart kind buffer other)
       ≡ record { state = after Ledger.play beginning L; answer = restarted accepted })
-  restart-always L buffer other e h =
-      restart-accepted L buffer other e
-      (omega (arith, image-most (after Ledger.play beginning L), ap placesOf (settings-after L beginning)))
+  restart-always kind L buffer other k e h =
+      restart-accepted kind L buffer other k e
+      (omega (arith, image-most (goesSecond kind) (after Ledger.play beginning L), ap (mostBytes (goesSecond kind)) (settings-after L beginning)))

@@ -10,6 +10,7 @@ use borrow.Author.Tests.{le-leb, lt-leb, eq-eqb}
 use lib.IntN.{pos, negsuc}
 use Rattle.laws.specs.Lists.{run, allBelow, firstOf}
 use Rattle.pricing.specs.Verdict.{refused}
+use Rattle.book.specs.Record.{openedFrom}
 use Rattle.book.specs.declared.record.Settings.{Settings}
 use Rattle.book_calls.specs.Opening as Opening
 use Rattle.book_calls.specs.Setting.{thresholdVerdict}
@@ -40,11 +41,11 @@ holding h = record { settings = settings; items = h }
 module _ (h : List Item) where
   -- with room for it the next entry is taken
   next-taken : taken (holding h) < 10000000 → Ledger.play (holding h) (call (taken (holding h))) .state ≡ kept (holding h) (interval marked)
-  unfolding Ledger.play entryVerdict firstOf run
+  unfolding Ledger.play entryVerdict firstOf run openedFrom
   next-taken l = rw (lt-leb 10000000 (taken (holding h)) l, eq-eqb (taken (holding h)) (taken (holding h)) refl)
 
   full-refused : (n : ℕ) → 10000000 ≤ taken (holding h) → Ledger.play (holding h) (call n) .answer ≡ entered (refused 12) 0 (pos 9 ∷ [])
-  unfolding Ledger.play entryVerdict
+  unfolding Ledger.play entryVerdict openedFrom
   full-refused n l = rw (le-leb 10000000 (taken (holding h)) l)
 
 -- what a ledger has become: still of these settings, with so many entries

@@ -1,6 +1,6 @@
 -- A restart, of a book that agrees with a ledger: stored and loaded it agrees still, and it is refused where the ledger says. Assumes nothing.
 use mathlib.Core.Path.{_≡_, refl, sym, ap, ap₂, _∙_, subst}
-use mathlib.Core.Bool.{Bool, true, false, not}
+use mathlib.Core.Bool.{Bool, true, false, not, _&&_, _||_}
 use mathlib.Core.List.{List}
 use mathlib.Core.Logic.{⊎-elim}
 use Prim.Native.Nat.{ℕ, zero, suc, _+_, _*_, _-_, _≤_, _<_}
@@ -11,25 +11,25 @@ use lib.IntN.{ℤ, pos}
 use lib.ListN.{length, getD, take}
 use Rattle.laws.specs.Base.{pick}
 use Rattle.laws.specs.Lists.{total, sumFrom}
-use Rattle.laws.proofs.Tests.{by-test, lt-or-ge}
+use Rattle.laws.proofs.Tests.{and-right, by-test, lt-or-ge}
 use Rattle.laws.proofs.Lists.{flat-lt, length-run}
 use Rattle.pricing.specs.Verdict.{Verdict, accepted, refused}
 use Rattle.book.specs.declared.record.Book.{Book}
-use Rattle.book.specs.Record.{closed, marketsOf, placeOf, ringSize, isAccepted}
+use Rattle.book.specs.Record.{closed, marketsOf, placeOf, ringSize, isLinked, fromOf, toOf, openedFrom, linksKnown, isAccepted}
 use Rattle.book.specs.Validity.{valid}
 use Rattle.book.proofs.Validities.{Valid, valid-is}
 use Rattle.head.specs.Counted.{inOrder, howMany}
 use Rattle.head.specs.Layout.{lengthOf}
 use Rattle.image.specs.Storing as Storing
-use Rattle.image.specs.Storing.{pricesOk, storeVerdict, stored}
+use Rattle.image.specs.Storing.{pricesOk, kindTells, storeVerdict, stored}
 use Rattle.image.specs.Loading as Loading
 use Rattle.image.specs.Loading.{loaded}
 use Rattle.image.proofs.Typed.{Typed}
 use Rattle.image.proofs.Verdicts.{StoreOk, ok-stored}
 use Rattle.image.proofs.RoundTrips.{anew, relaid, image-length, reload, load-other-ring, anew-same, anew-valid, anew-typed, relaid-length}
-use Rattle.ledger.specs.Calls.{restart, Answer, restarted, Step}
+use Rattle.ledger.specs.Calls.{restart, goesSecond, Answer, restarted, Step}
 use Rattle.ledger.specs.Ledger as Ledger
-use Rattle.ledger.specs.Ledger.{Ledger, taken, lastPrices, countsTo, imageLength, restartVerdict}
+use Rattle.ledger.specs.Ledger.{Ledger, taken, lastPrices, countsTo, imageLength, restartVerdict, allowed}
 use Rattle.ledger.specs.Book as Book
 use Rattle.ledger.specs.Book.{Held}
 use Rattle.ledger.proofs.Joining.{Every}
@@ -71,8 +71,8 @@ module _ (s : Held) (p : Ledger) (a : Agree s p) where
       sum-snoc n 0 count ∙ ap₂ _+_ (counts-above n m (omega arith)) (ap count z ∙ ok .no-count n m (omega arith)) ∙ omega arith)
       (lt-or-ge n (s .book .regions))
 
-  pub length-agrees : imageLength p ≡ lengthOf (s .book)
-  length-agrees =
+  pub length-agrees : (second : Bool) → imageLength second p ≡ lengthOf second (s .book)
+  length-agrees second =
       let e : sumFrom 8 0 count ≡ countsTo p (p .settings .regions) =
       counts-above 8 (ok .regions) (omega arith) ∙ counts-below (s .book .regions) (omega arith) ∙ ap (countsTo p) (sym (a .regions)) in
       rw (← e, a .services)
@@ -80,19 +80,19 @@ module _ (s : Held) (p : Ledger) (a : Agree s p) where
   typed : Typed (s .book)
   typed = record { parents = a .eight; counts = a .sized .counts; sums = a .sized .sums; marks = a .sized .marks }
 
-  module _ (buffer : List ℕ) (room : lengthOf (s .book) ≤ length buffer) where
-    good : StoreOk (s .book) (s .ring) (length buffer)
-    good = record { book = ok; ring-size = a .holds .ring-size; prices = a .holds .prices; room = room }
+  module _ (second : Bool) (tells : kindTells second (s .book) ≡ true) (buffer : List ℕ) (room : lengthOf second (s .book) ≤ length buffer) where
+    good : StoreOk second (s .book) (s .ring) (length buffer)
+    good = record { book = ok; ring-size = a .holds .ring-size; prices = a .holds .prices; tells = tells; room = room }
 
-    store-accepted : isAccepted (stored (s .book) (s .ring) buffer .verdict) ≡ true
-    store-accepted = rw (ok-stored (s .book) (s .ring) buffer good)
+    store-accepted : isAccepted (stored second (s .book) (s .ring) buffer .verdict) ≡ true
+    store-accepted = rw (ok-stored second (s .book) (s .ring) buffer good)
 
-    handed : stored (s .book) (s .ring) buffer .book ≡ s .book
-    handed = rw (ok-stored (s .book) (s .ring) buffer good)
+    handed : stored second (s .book) (s .ring) buffer .book ≡ s .book
+    handed = rw (ok-stored second (s .book) (s .ring) buffer good)
 
     same-order : (r m : ℕ) → r < s .book .regions → m < marketsOf (s .book .services)
         → inOrder (s .book) (s .ring) (marketAt (s .book) r m) ≡ inOrder (anew (s .book)) (relaid (s .book) (s .ring)) (marketAt (s .book) r m)
-    same-order r m h l = anew-same (s .book) (s .ring) buffer typed store-accepted .prices (marketAt (s .book) r m) (flat-lt r m (s .book .regions) (marketsOf (s .book .services)) h l)
+    same-order r m h l = anew-same second (s .book) (s .ring) buffer typed store-accepted .prices (marketAt (s .book) r m) (flat-lt r m (s .book .regions) (marketsOf (s .book .services)) h l)
 
     prices-anew : Prices (anew (s .book)) (relaid (s .book) (s .ring))
     prices-anew =
@@ -103,12 +103,13 @@ module _ (s : Held) (p : Ledger) (a : Agree s p) where
         }
 
     restart-agrees : Agree (record { book = anew (s .book); ring = relaid (s .book) (s .ring) }) p
+    unfolding fromOf toOf
     restart-agrees =
-        let t = anew-typed (s .book) (s .ring) buffer typed store-accepted in
+        let t = anew-typed second (s .book) (s .ring) buffer typed store-accepted in
         record {
           holds = record {
-            accepted = anew-valid (s .book) (s .ring) buffer typed store-accepted;
-            ring-size = relaid-length (s .book) (s .ring) buffer typed store-accepted;
+            accepted = anew-valid second (s .book) (s .ring) buffer typed store-accepted;
+            ring-size = relaid-length second (s .book) (s .ring) buffer typed store-accepted;
             prices = is-prices (anew (s .book)) (relaid (s .book) (s .ring)) prices-anew;
           };
           sized = record { counts = t .counts; nexts = length-run _ 8 0; sums = t .sums; marks = t .marks };
@@ -118,6 +119,8 @@ module _ (s : Held) (p : Ledger) (a : Agree s p) where
           window = a .window;
           halves = a .halves;
           parents = a .parents;
+          from = a .from;
+          to = a .to;
           entries = a .entries;
           position = a .position;
           threshold = a .threshold;
@@ -131,49 +134,72 @@ module _ (s : Held) (p : Ledger) (a : Agree s p) where
   abbrev Alike : Step Held → Step Ledger → Type 0
   Alike x y = (x .answer ≡ y .answer) × Agree (x .state) (y .state)
 
-  short-alike : (buffer : List ℕ) (g : List ℤ) → ltb (length buffer) (lengthOf (s .book)) ≡ true → Alike (Book.play s (restart buffer g)) (Ledger.play p (restart buffer g))
-  unfolding Book.play Ledger.play restartVerdict stored storeVerdict
-  short-alike buffer g t =
-      let e : eqb (length (s .ring)) (ringSize (s .book .regions) (s .book .services) (s .book .window)) ≡ true = eq-eqb _ _ (a .holds .ring-size) in
-      rw (length-agrees, a .holds .accepted, e, a .holds .prices, t) (refl, a)
+  -- the kind tells the book, on P's side too
+  tells-agrees : (second : Bool) → allowed second p ≡ kindTells second (s .book)
+  tells-agrees second = rw (a .from)
 
-  module _ (buffer : List ℕ) (g : List ℤ) (t : ltb (length buffer) (lengthOf (s .book)) ≡ false) where
-    room : lengthOf (s .book) ≤ length buffer
-    room = ltb-false (length buffer) (lengthOf (s .book)) t
+  own-ring : eqb (length (s .ring)) (ringSize (s .book .regions) (s .book .services) (s .book .window)) ≡ true
+  own-ring = eq-eqb _ _ (a .holds .ring-size)
 
-    -- the store is accepted and hands the book back, so that the restart is the load
-    restart-is : (x : Loading.Outcome) → loaded (take (stored (s .book) (s .ring) buffer .length) (stored (s .book) (s .ring) buffer .buffer)) g ≡ x
-        → Book.play s (restart buffer g) ≡ Book.loads s x
-    unfolding Book.play
-    restart-is x e = rw (store-accepted buffer room, e) (ap (λ (b : Book). Book.loads (record { book = b; ring = s .ring }) x) (handed buffer room))
+  module _ (kind : Bool) (buffer : List ℕ) (g : List ℤ) where
+    abbrev second : Bool
+    second = goesSecond kind
 
-    -- P's verdict, once the buffer is long enough
-    says : (v : Bool) → eqb (length g) (ringSize (s .book .regions) (s .book .services) (s .book .window)) ≡ v → restartVerdict p (length buffer) (length g) ≡ pick v accepted (refused 11)
-    unfolding restartVerdict
-    says v q = rw (length-agrees, t, a .regions, a .services, a .window, q) (go v)
-      where
-        go : (v : Bool) → pick (not v) (refused 11) accepted ≡ pick v accepted (refused 11)
-        go true = refl
-        go false = refl
+    known : second ≡ true → linksKnown ≡ true
+    known e = and-right kind linksKnown e
 
-    right-alike : eqb (length g) (ringSize (s .book .regions) (s .book .services) (s .book .window)) ≡ true → Alike (Book.play s (restart buffer g)) (Ledger.play p (restart buffer g))
-    unfolding Ledger.play
-    right-alike q =
-        let e = restart-is (record { verdict = accepted; book = anew (s .book); ring = relaid (s .book) (s .ring) }) (reload (s .book) (s .ring) buffer typed (store-accepted buffer room) g (eqb-true _ _ q)) in (
-          ap (λ (x : Step Held). x .answer) e ∙ ap restarted (sym (says true q)),
-          subst (λ (x : Step Held). Agree (x .state) p) (sym e) (restart-agrees buffer room),
-        )
+    first-alike : kindTells second (s .book) ≡ false → Alike (Book.play s (restart kind buffer g)) (Ledger.play p (restart kind buffer g))
+    unfolding Book.play Ledger.play restartVerdict stored storeVerdict
+    first-alike k = rw (tells-agrees second, a .holds .accepted, own-ring, a .holds .prices, k) (refl, a)
 
-    wrong-alike : eqb (length g) (ringSize (s .book .regions) (s .book .services) (s .book .window)) ≡ false → Alike (Book.play s (restart buffer g)) (Ledger.play p (restart buffer g))
-    unfolding Ledger.play
-    wrong-alike q =
-        let i = image-length (s .book) (s .ring) buffer typed (store-accepted buffer room) in
-        let e = restart-is (record { verdict = refused 11; book = closed; ring = g }) (rw i (load-other-ring (s .book) (s .ring) buffer typed (store-accepted buffer room) g q)) in (
-          ap (λ (x : Step Held). x .answer) e ∙ ap restarted (sym (says false q)),
-          subst (λ (x : Step Held). Agree (x .state) p) (sym e) a,
-        )
+    module _ (k : kindTells second (s .book) ≡ true) where
+      short-alike : ltb (length buffer) (lengthOf second (s .book)) ≡ true → Alike (Book.play s (restart kind buffer g)) (Ledger.play p (restart kind buffer g))
+      unfolding Book.play Ledger.play restartVerdict stored storeVerdict
+      short-alike t = rw (tells-agrees second, length-agrees second, a .holds .accepted, own-ring, a .holds .prices, k, t) (refl, a)
 
-  pub restart-alike : (buffer : List ℕ) (g : List ℤ) → Alike (Book.play s (restart buffer g)) (Ledger.play p (restart buffer g))
-  restart-alike buffer g =
-      by-test (ltb (length buffer) (lengthOf (s .book))) (λ t. short-alike buffer g t)
-      (λ t. by-test (eqb (length g) (ringSize (s .book .regions) (s .book .services) (s .book .window))) (λ q. right-alike buffer g t q) (λ q. wrong-alike buffer g t q))
+      module _ (t : ltb (length buffer) (lengthOf second (s .book)) ≡ false) where
+        room : lengthOf second (s .book) ≤ length buffer
+        room = ltb-false (length buffer) (lengthOf second (s .book)) t
+
+        accepts : isAccepted (stored second (s .book) (s .ring) buffer .verdict) ≡ true
+        accepts = store-accepted second k buffer room
+
+        -- the store is accepted and hands the book back, so that the restart is the load
+        restart-is : (x : Loading.Outcome) → loaded (take (stored second (s .book) (s .ring) buffer .length) (stored second (s .book) (s .ring) buffer .buffer)) g ≡ x
+            → Book.play s (restart kind buffer g) ≡ Book.loads s x
+        unfolding Book.play
+        restart-is x e = rw (accepts, e) (ap (λ (b : Book). Book.loads (record { book = b; ring = s .ring }) x) (handed second k buffer room))
+
+        -- P's verdict, once the buffer is long enough
+        says : (v : Bool) → eqb (length g) (ringSize (s .book .regions) (s .book .services) (s .book .window)) ≡ v → restartVerdict second p (length buffer) (length g) ≡ pick v accepted (refused 11)
+        unfolding restartVerdict
+        says v q = rw (tells-agrees second, k, length-agrees second, t, a .regions, a .services, a .window, q) (go v)
+          where
+            go : (v : Bool) → pick (not v) (refused 11) accepted ≡ pick v accepted (refused 11)
+            go true = refl
+            go false = refl
+
+        right-alike : eqb (length g) (ringSize (s .book .regions) (s .book .services) (s .book .window)) ≡ true → Alike (Book.play s (restart kind buffer g)) (Ledger.play p (restart kind buffer g))
+        unfolding Ledger.play
+        right-alike q =
+            let e = restart-is (record { verdict = accepted; book = anew (s .book); ring = relaid (s .book) (s .ring) }) (reload second (s .book) (s .ring) buffer typed accepts known g (eqb-true _ _ q)) in (
+              ap (λ (x : Step Held). x .answer) e ∙ ap restarted (sym (says true q)),
+              subst (λ (x : Step Held). Agree (x .state) p) (sym e) (restart-agrees second k buffer room),
+            )
+
+        wrong-alike : eqb (length g) (ringSize (s .book .regions) (s .book .services) (s .book .window)) ≡ false → Alike (Book.play s (restart kind buffer g)) (Ledger.play p (restart kind buffer g))
+        unfolding Ledger.play
+        wrong-alike q =
+            let i = image-length second (s .book) (s .ring) buffer typed accepts in
+            let e = restart-is (record { verdict = refused 11; book = closed; ring = g }) (rw i (load-other-ring second (s .book) (s .ring) buffer typed accepts known g q)) in (
+              ap (λ (x : Step Held). x .answer) e ∙ ap restarted (sym (says false q)),
+              subst (λ (x : Step Held). Agree (x .state) p) (sym e) a,
+            )
+
+  pub restart-alike : (kind : Bool) (buffer : List ℕ) (g : List ℤ) → Alike (Book.play s (restart kind buffer g)) (Ledger.play p (restart kind buffer g))
+  restart-alike kind buffer g =
+      let second = goesSecond kind in
+      by-test (kindTells second (s .book))
+      (λ k. by-test (ltb (length buffer) (lengthOf second (s .book))) (λ t. short-alike kind buffer g k t)
+      (λ t. by-test (eqb (length g) (ringSize (s .book .regions) (s .book .services) (s .book .window))) (λ q. right-alike kind buffer g k t q) (λ q. wrong-alike kind buffer g k t q)))
+      (λ k. first-alike kind buffer g k)

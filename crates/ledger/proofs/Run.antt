@@ -2,6 +2,7 @@
 -- every kind of call, so that no hypothesis of DEMAND 3 is empty (proofs/Chains and Full begin with openings). Refusals 11, 13 to 19, 21,
 -- 23 and 44 occur in it; 12 takes 10,000,000 entries (Full), and 10 and 22 never occur (Corollaries). Assumes nothing.
 use mathlib.Core.Path.{_≡_, refl}
+use mathlib.Core.Bool.{false}
 use mathlib.Core.List.{List, [], _∷_}
 use Prim.Native.Nat.{ℕ}
 use lib.IntN.{ℤ, pos, negsuc}
@@ -20,8 +21,9 @@ use Rattle.book_calls.specs.Opening.{fresh}
 use Rattle.book_calls.specs.Setting.{thresholdVerdict, limitsVerdict, setThreshold, setLimits}
 use Rattle.book_calls.specs.Report as Report
 use Rattle.book_calls.specs.Report.{nothing}
+use Rattle.book.specs.Record.{fromOf, toOf, openedFrom, openedTo, linksKnown}
 use Rattle.routes.specs.Limits.{tighter, over}
-use Rattle.routes.specs.Links.{powerOf}
+use Rattle.routes.specs.Links.{extraOf, powerOf}
 use Rattle.routes.specs.Routes as Routes
 use Rattle.publishing.specs.Entry.{entryOf}
 use Rattle.publishing.specs.Effective.{scheduled, effective}
@@ -46,7 +48,7 @@ settings = settingsOf 2 1 2 1 3 (λ r. getD (255 ∷ 0 ∷ []) r 255) (pos 95000
 
 -- an image of a book with these settings and without entries, loaded into a ring that held something
 abbrev pub start : Start
-start = loads (imageOf (fresh settings) []) (replicate 8 (pos 77))
+start = loads (imageOf false (fresh settings) []) (replicate 8 (pos 77))
 
 -- ---- entries: lent a ring by its length, a number, a day kind, prices, marks, B's factor; B's power always goes to A
 abbrev lent : ℕ → ℕ → ℕ → List ℤ → List ℕ → ℕ → Call
@@ -98,9 +100,9 @@ calls =
     ∷ report 0 2
     ∷ report 2 0
     -- a buffer that is one short of 148 + 4 × 2 × 4, a ring of a wrong length, and a restart: buffer and ring hold other things
-    ∷ restart (replicate 179 255) (replicate 8 (negsuc 4))
-    ∷ restart (replicate 200 255) (replicate 7 (negsuc 4))
-    ∷ restart (replicate 200 255) (replicate 8 (negsuc 4))
+    ∷ restart false (replicate 179 255) (replicate 8 (negsuc 4))
+    ∷ restart false (replicate 200 255) (replicate 7 (negsuc 4))
+    ∷ restart false (replicate 200 255) (replicate 8 (negsuc 4))
     -- the oldest leaves each window, and A triggers again
     ∷ enters 3 0 (prices (pos 100001) (pos 0) (pos 10000) (pos 0)) (0 ∷ 0 ∷ [])
     ∷ report 0 0 ∷ report 0 1 ∷ report 1 0 ∷ report 1 1 ∷ []
@@ -149,10 +151,10 @@ expected =
 
 -- P's list may begin with it
 pub begins : Begins start
-unfolding valid run firstOf allBelow imageOf values firsts seconds words widths encode le joined sumFrom loaded loadVerdict headVerdict numberAt number decode bookOf badFrom bookFrom ringFrom windowsFrom sumsFrom total
+unfolding valid run firstOf allBelow imageOf values firsts seconds words widths encode le joined sumFrom loaded loadVerdict headVerdict numberAt number decode bookOf badFrom bookFrom ringFrom windowsFrom sumsFrom total fromOf toOf openedFrom openedTo linksKnown
 begins = record { accepted = refl; fit = record { entries = refl; marks = refl } }
 
 -- the book as loaded, and P
 pub runs : (answers Book.play (Demand.held start) calls ≡ expected) × (answers Ledger.play (Ledger.begin (Demand.settings start)) calls ≡ expected)
-unfolding answers Book.play Ledger.play valid Entering.entered entryVerdict setThreshold setLimits thresholdVerdict limitsVerdict entriesOf before lastSet unmarkedPrices administeredAt countsTo restartVerdict run firstOf countBelow allBelow anyBelow total lastN Ledger.reportOf Report.reportOf Report.reportVerdict published effective scheduled cappedBy anyAdministered hasLimit limit atMost atLeast powerOf tighter over Routes.limitOf Routes.overAll Routes.routesFrom Routes.along Routes.joined Routes.after minZ maxZ held carried cents inCents rounded nearest stored storeVerdict imageOf values firsts seconds words widths encode le joined sumFrom loaded loadVerdict headVerdict numberAt number decode bookOf badFrom bookFrom ringFrom windowsFrom sumsFrom
+unfolding answers Book.play Ledger.play valid Entering.entered entryVerdict setThreshold setLimits thresholdVerdict limitsVerdict entriesOf before lastSet unmarkedPrices administeredAt countsTo restartVerdict run firstOf countBelow allBelow anyBelow total lastN Ledger.reportOf Report.reportOf Report.reportVerdict published effective scheduled cappedBy anyAdministered hasLimit limit atMost atLeast extraOf powerOf tighter over Routes.limitOf Routes.overAll Routes.routesFrom Routes.along Routes.joined Routes.after minZ maxZ held carried cents inCents rounded nearest stored storeVerdict imageOf values firsts seconds words widths encode le joined sumFrom loaded loadVerdict headVerdict numberAt number decode bookOf badFrom bookFrom ringFrom windowsFrom sumsFrom fromOf toOf openedFrom openedTo linksKnown
 runs = (refl, refl)

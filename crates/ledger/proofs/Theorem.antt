@@ -133,7 +133,7 @@ keeps s p (entry g number e table) a = entry-alike s p a number e table g
 keeps s p (threshold x) a = threshold-alike s p a x
 keeps s p (limits c f) a = limits-alike s p a c f
 keeps s p (report r m) a = report-alike s p a r m
-keeps s p (restart buffer g) a = restart-alike s p a buffer g
+keeps s p (restart second buffer g) a = restart-alike s p a second buffer g
 
 -- ---- any list of calls, from a start that agrees
 pub plays : (L : List Call) (s : Held) (p : Ledger) → Agree s p → (answers Book.play s L ≡ answers Ledger.play p L) × Agree (after Book.play s L) (after Ledger.play p L)
@@ -160,7 +160,7 @@ settings-play p (limits c f) = go (isAccepted (limitsVerdict c f))
     go true = refl
     go false = refl
 settings-play p (report r m) = refl
-settings-play p (restart buffer g) = refl
+settings-play p (restart second buffer g) = refl
 
 pub settings-after : (L : List Call) (p : Ledger) → after Ledger.play p L .settings ≡ p .settings
 unfolding after

@@ -1,22 +1,27 @@
 -- Lists of calls and their answers, for P and for the book alike. Assumes nothing.
 use mathlib.Core.Path.{_≡_}
-use mathlib.Core.Bool.{false}
+use mathlib.Core.Bool.{Bool, false, _&&_}
 use mathlib.Core.List.{List, [], _∷_}
 use Prim.Native.Nat.{ℕ}
 use lib.IntN.{ℤ}
 use Rattle.pricing.specs.Verdict.{Verdict}
-use Rattle.book.specs.Record.{isAccepted}
+use Rattle.book.specs.Record.{linksKnown, isAccepted}
 use Rattle.book_calls.specs.Report.{Numbers, nothing}
 use Rattle.publishing.specs.Entry.{Entry}
 
 -- a call of L with its arguments, any lengths and any numbers: an entry with the ring that it is lent, its number and the
--- table; the two settings; a report of a region and market; a restart with a buffer and another ring
+-- table; the two settings; a report of a region and market; a restart by an image of kind 2 (true) or of kind 1, with a buffer and another
+-- ring
 pub data Call : Type 0 where
   entry : List ℤ → ℕ → Entry → List ℤ → Call
   threshold : ℤ → Call
   limits : ℤ → ℤ → Call
   report : ℕ → ℕ → Call
-  restart : List ℕ → List ℤ → Call
+  restart : Bool → List ℕ → List ℤ → Call
+
+-- the kind by which a restart goes: kind 2 isn't known yet (2026-10 is prepared), so that until then both go by kind 1
+abbrev pub goesSecond : Bool → Bool
+goesSecond second = second && linksKnown
 
 -- "Compared, for each call of L: acceptance, or refusal with its place; an entry's count and published table; a report's
 -- four numbers"
@@ -59,7 +64,7 @@ refusedAnswer (entry ring number e table) v = entered v 0 table
 refusedAnswer (threshold x) v = set v
 refusedAnswer (limits c f) v = set v
 refusedAnswer (report region market) v = reported (nothing v)
-refusedAnswer (restart buffer ring) v = restarted v
+refusedAnswer (restart second buffer ring) v = restarted v
 
 -- each call has its answer, and an answer that is a refusal is that one
 abbrev pub Zeros : List Call → List Answer → Type 0
@@ -75,7 +80,7 @@ withoutRestarts (entry ring number e table ∷ L) = entry ring number e table �
 withoutRestarts (threshold x ∷ L) = threshold x ∷ withoutRestarts L
 withoutRestarts (limits c f ∷ L) = limits c f ∷ withoutRestarts L
 withoutRestarts (report region market ∷ L) = report region market ∷ withoutRestarts L
-withoutRestarts (restart buffer ring ∷ L) = withoutRestarts L
+withoutRestarts (restart second buffer ring ∷ L) = withoutRestarts L
 
 unfoldable pub dropRestarts : List Answer → List Answer
 dropRestarts [] = []

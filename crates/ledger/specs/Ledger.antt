@@ -11,7 +11,7 @@
 --   forms alone: `Settings`, `Verdict`, `Numbers` with `nothing`, `isAccepted`, the calls and answers of Calls, and the lists of laws
 -- All of them are compared with the independent ledger of host/rust, which shares no definition.
 use mathlib.Core.Path.{_≡_}
-use mathlib.Core.Bool.{Bool, true, false, not, _&&_}
+use mathlib.Core.Bool.{Bool, true, false, not, _&&_, _||_}
 use mathlib.Core.List.{List, [], _∷_, _++_}
 use Prim.Native.Nat.{ℕ, zero, suc, _+_, _*_, _/_, _%_, _≤_, _<_}
 use lib.Dec.{eqb, leb, ltb}
@@ -22,7 +22,7 @@ use Rattle.laws.specs.Base.{pick}
 use Rattle.laws.specs.Lists.{tabulate, allBelow, anyBelow, total, lastN}
 use Rattle.pricing.specs.Verdict.{Verdict, accepted, refused}
 use Rattle.book.specs.declared.record.Settings.{Settings}
-use Rattle.book.specs.Record.{marketsOf, ringSize, isAccepted}
+use Rattle.book.specs.Record.{marketsOf, ringSize, isLinked, openedFrom, openedTo, isAccepted}
 use Rattle.book.specs.Validity.{usedPlace}
 use Rattle.book_calls.specs.Setting.{thresholdVerdict, limitsVerdict}
 use Rattle.book_calls.specs.Report.{Numbers, nothing, reportVerdict}
@@ -30,7 +30,7 @@ use Rattle.publishing.specs.declared.Terms.{Terms}
 use Rattle.publishing.specs.Entry.{Offer, Entry}
 use Rattle.publishing.specs.Published.{tableOf, countOf}
 use Rattle.entries.specs.Checking.{Shape, entryVerdict}
-use Rattle.ledger.specs.Calls.{Call, entry, threshold, limits, report, restart, Answer, entered, set, reported, restarted, Step}
+use Rattle.ledger.specs.Calls.{Call, entry, threshold, limits, report, restart, goesSecond, Answer, entered, set, reported, restarted, Step}
 
 -- "in order, the accepted entries and settings", oldest first
 pub data Item : Type 0 where
@@ -155,12 +155,21 @@ termsAt p t = record {
   halves = p .settings .halves;
   position = positionAt p t;
   parents = p .settings .parents;
+  from = openedFrom (p .settings);
+  to = openedTo (p .settings);
   cap = capAt p t;
   floor = floorAt p t;
 }
 
 abbrev pub shapeOf : Settings → Shape
-shapeOf s = record { regions = s .regions; services = s .services; window = s .window; halves = s .halves; parents = s .parents }
+shapeOf s = record {
+  regions = s .regions;
+  services = s .services;
+  window = s .window;
+  halves = s .halves;
+  parents = s .parents;
+  from = openedFrom s;
+}
 
 -- ---- the calls
 abbrev pub kept : Ledger → Item → Ledger
@@ -180,21 +189,27 @@ reportOf p region market =
     })
     (nothing (reportVerdict (p .settings .regions) (p .settings .services) region market))
 
--- the length of the image that a restart stores: 148 + 4 × M × (sum of counts)
+-- the length of the image that a restart stores: 148 + 4 × M × (sum of counts), of kind 2 from 156
 unfoldable pub countsTo : Ledger → ℕ → ℕ
 countsTo p zero = 0
 countsTo p (suc r) = countsTo p r + length (lastPrices p r 0 (taken p))
 
-abbrev pub imageLength : Ledger → ℕ
-imageLength p = 148 + 4 * (marketsOf (p .settings .services) * countsTo p (p .settings .regions))
+abbrev pub imageLength : Bool → Ledger → ℕ
+imageLength second p = pick second 156 148 + 4 * (marketsOf (p .settings .services) * countsTo p (p .settings .regions))
+
+-- "by kind 1 where 47 allows it": a book without the link goes by either kind, one with it by kind 2 alone
+abbrev pub allowed : Bool → Ledger → Bool
+allowed second p = second || not (isLinked (openedFrom (p .settings)))
 
 -- "an image stored into a long enough buffer and loaded .. into another ring of the right length .. P accepts both calls and
--- does nothing". Of any buffer and ring: a short buffer is 23, a ring of another length 11
-unfoldable pub restartVerdict : Ledger → ℕ → ℕ → Verdict
-restartVerdict p buffer ring =
-    pick (ltb buffer (imageLength p)) (refused 23)
+-- does nothing"; "a restart goes by kind 2, or by kind 1 where 47 allows it". Of any buffer and ring: 47 for kind 1 of a book with the
+-- link, a short buffer is 23, a ring of another length 11
+unfoldable pub restartVerdict : Bool → Ledger → ℕ → ℕ → Verdict
+restartVerdict second p buffer ring =
+    pick (not (allowed second p)) (refused 47)
+    (pick (ltb buffer (imageLength second p)) (refused 23)
     (pick (not (eqb ring (ringSize (p .settings .regions) (p .settings .services) (p .settings .window)))) (refused 11)
-    accepted)
+    accepted))
 
 -- "Refusals are those listed for the call, of which 10 and 22 never occur over L; a refused call leaves P and the lent table
 -- as they were and answers zeros beside number and place". Of a ring P is fed the length alone
@@ -215,7 +230,7 @@ play p (entry ring number e table) = playEntry p (length ring) number e table
 play p (threshold x) = playSetting p (thresholdVerdict x) (threshold-set x)
 play p (limits c f) = playSetting p (limitsVerdict c f) (limits-set c f)
 play p (report region market) = record { state = p; answer = reported (reportOf p region market) }
-play p (restart buffer ring) = record { state = p; answer = restarted (restartVerdict p (length buffer) (length ring)) }
+play p (restart second buffer ring) = record { state = p; answer = restarted (restartVerdict (goesSecond second) p (length buffer) (length ring)) }
 
 -- P after the opening, or with the settings of an image that stand for the opening's (specs/Demand)
 abbrev pub begin : Settings → Ledger

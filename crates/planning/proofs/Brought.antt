@@ -69,7 +69,7 @@ entries-play p (threshold x) =
 entries-play p (limits c f) =
     by-test (isAccepted (limitsVerdict c f)) (λ t. rw t (entries-append (p .items) (limits-set c f ∷ []))) (λ t. rw t (sym (append-nil (entriesOf (p .items)))))
 entries-play p (report r m) = sym (append-nil (entriesOf (p .items)))
-entries-play p (restart buffer g) = sym (append-nil (entriesOf (p .items)))
+entries-play p (restart second buffer g) = sym (append-nil (entriesOf (p .items)))
 
 accepted-first : (c : Call) (K : List Call) (a : Answer) (l : List Answer) → acceptedIn (c ∷ []) (a ∷ []) ++ acceptedIn K l ≡ acceptedIn (c ∷ K) (a ∷ l)
 unfolding acceptedIn
@@ -77,7 +77,7 @@ accepted-first (entry g number e table) K a l = by-test (isAccepted (verdictIn a
 accepted-first (threshold x) K a l = refl
 accepted-first (limits c f) K a l = refl
 accepted-first (report r m) K a l = refl
-accepted-first (restart buffer g) K a l = refl
+accepted-first (restart second buffer g) K a l = refl
 
 entries-after : (K : List Call) (p : Ledger) → entriesOf (after Ledger.play p K .items) ≡ entriesOf (p .items) ++ acceptedIn K (answers Ledger.play p K)
 unfolding after answers acceptedIn

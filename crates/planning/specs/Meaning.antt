@@ -36,7 +36,7 @@ acceptedIn (entry ring number e table ∷ K) (a ∷ l) = pick (isAccepted (verdi
 acceptedIn (threshold x ∷ K) (a ∷ l) = acceptedIn K l
 acceptedIn (limits c f ∷ K) (a ∷ l) = acceptedIn K l
 acceptedIn (report r m ∷ K) (a ∷ l) = acceptedIn K l
-acceptedIn (restart buffer ring ∷ K) (a ∷ l) = acceptedIn K l
+acceptedIn (restart second buffer ring ∷ K) (a ∷ l) = acceptedIn K l
 
 -- the prices that the calls of K bring a market's window, by P's own definition: those of the unmarked intervals
 abbrev pub brought : Held → List Call → ℕ → ℕ → List ℤ

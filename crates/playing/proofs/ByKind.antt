@@ -65,6 +65,6 @@ module _ (m : Lengths) (c : List ℕ) (s : State) where
   report-says k = record { call-is = rw k refl; after-is = rw k refl; size-is = rw k refl }
 
   pub restart-says : eqb (kindAt c (s .at)) 65 ≡ false → eqb (kindAt c (s .at)) 66 ≡ false → eqb (kindAt c (s .at)) 67 ≡ false → eqb (kindAt c (s .at)) 68 ≡ false
-      → Says (Calls.restart (replicate (m .image) 0) (replicate (m .other) (pos 0))) (restart c s) 14
+      → Says (Calls.restart false (replicate (m .image) 0) (replicate (m .other) (pos 0))) (restart c s) 14
   unfolding callAt step answerSize
   restart-says e f g h = record { call-is = rw (e, f, g, h) refl; after-is = rw (e, f, g, h) refl; size-is = rw (e, h) refl }

@@ -134,7 +134,7 @@ module _ (b : Book) (ring other : List ℤ) (image : List ℕ) (numbers : List �
       (no-swap 68 k (inr (inr (inr refl))), fields _ e₀ refl refl refl refl refl refl refl refl e₁ ∙ sym (s .after-is))
 
   abbrev o : Storing.Outcome
-  o = Storing.stored b ring image
+  o = Storing.stored false b ring image
 
   swaps-restart : eqb (kindAt c at) 65 ≡ false → eqb (kindAt c at) 66 ≡ false → eqb (kindAt c at) 67 ≡ false → eqb (kindAt c at) 68 ≡ false → swaps c before ≡ swapped o other
   unfolding swaps

@@ -83,9 +83,9 @@ module _ (l m : List ℕ) (out : ℕ) where
         subst (λ (x : Storing.Outcome). RestartSaid x other b swap after g d) (ap with (sym e) ∙ h) (p .0, (p .1 .0, (p .1 .1 .0, (refl, p .1 .1 .1))))
 
 -- the image fits into the buffer
-module _ (b : Book) (ring : List ℤ) (buffer d : List ℕ) (s : Stored) (h : Storing.outcome s d ≡ Storing.stored b ring buffer) where
+module _ (b : Book) (ring : List ℤ) (buffer d : List ℕ) (s : Stored) (h : Storing.outcome s d ≡ Storing.stored false b ring buffer) where
   pub image-fits : (n : ℕ) → s .image ≡ image.Length n → n ≤ length buffer
   image-fits n e =
-      let ok = stored-ok b ring buffer (ap (λ (x : Storing.Outcome). isAccepted (x .verdict)) (sym h) ∙ ap (λ (x : Image). isAccepted (Storing.verdict x)) e) in
-      let q : n ≡ Storing.stored b ring buffer .length = ap Storing.lengthIn (sym e) ∙ ap (λ (x : Storing.Outcome). x .length) h in
-      omega (arith, ok .room, q, ap (λ (x : Storing.Outcome). x .length) (ok-stored b ring buffer ok))
+      let ok = stored-ok false b ring buffer (ap (λ (x : Storing.Outcome). isAccepted (x .verdict)) (sym h) ∙ ap (λ (x : Image). isAccepted (Storing.verdict x)) e) in
+      let q : n ≡ Storing.stored false b ring buffer .length = ap Storing.lengthIn (sym e) ∙ ap (λ (x : Storing.Outcome). x .length) h in
+      omega (arith, ok .room, q, ap (λ (x : Storing.Outcome). x .length) (ok-stored false b ring buffer ok))

@@ -22,4 +22,4 @@ callAt m c at =
     (pick (eqb (kindAt c at) 66) (threshold (thresholdIn c at))
     (pick (eqb (kindAt c at) 67) (limits (capIn c at) (floorIn c at))
     (pick (eqb (kindAt c at) 68) (report (regionIn c at) (marketIn c at))
-    (restart (replicate (m .image) 0) (replicate (m .other) (pos 0))))))
+    (restart false (replicate (m .image) 0) (replicate (m .other) (pos 0))))))

@@ -160,7 +160,7 @@ restarts c s o = record {
 }
 
 abbrev pub restart : List ℕ → State → State
-restart c s = restarts c s (Storing.stored (s .book) (s .ring) (s .image))
+restart c s = restarts c s (Storing.stored false (s .book) (s .ring) (s .image))
 
 -- ---- the call at the next place, by its kind
 unfoldable pub step : List ℕ → State → State
@@ -177,4 +177,4 @@ swaps c s =
     (pick (eqb (kindAt c (s .at)) 66) false
     (pick (eqb (kindAt c (s .at)) 67) false
     (pick (eqb (kindAt c (s .at)) 68) false
-    (swapped (Storing.stored (s .book) (s .ring) (s .image)) (s .other)))))
+    (swapped (Storing.stored false (s .book) (s .ring) (s .image)) (s .other)))))

@@ -14,7 +14,7 @@ use entries::Entered;
 use entries::enter;
 use image::loading::load;
 use image::storing::Image;
-use image::storing::store;
+use image::storing::store_kind_1;
 use records::reading::Lengths;
 use records::reading::lengths_at;
 use records::reading::read_entry;
@@ -210,16 +210,16 @@ fn play_restart(
     out: usize,
 ) -> Played
     requires { ⌜ out + 14 ≤ length (now answers) ⌝ }
-    ensures { λ r. ⌜ r .swapped ≡ swapped (Storing.stored book (now (ring .entry)) (now (image .entry))) (now (other .entry)) ⌝ }
+    ensures { λ r. ⌜ r .swapped ≡ swapped (Storing.stored false book (now (ring .entry)) (now (image .entry))) (now (other .entry)) ⌝ }
     ensures { λ r. ⌜ r .book
-        ≡ restartedBook (Storing.stored book (now (ring .entry)) (now (image .entry))) (now (other .entry)) book ⌝ }
+        ≡ restartedBook (Storing.stored false book (now (ring .entry)) (now (image .entry))) (now (other .entry)) book ⌝ }
     ensures { λ _. ⌜ now (other .exit)
-        ≡ reloaded (Storing.stored book (now (ring .entry)) (now (image .entry))) (now (other .entry)) ⌝ }
-    ensures { λ _. ⌜ now (image .exit) ≡ Storing.stored book (now (ring .entry)) (now (image .entry)) .buffer ⌝ }
+        ≡ reloaded (Storing.stored false book (now (ring .entry)) (now (image .entry))) (now (other .entry)) ⌝ }
+    ensures { λ _. ⌜ now (image .exit) ≡ Storing.stored false book (now (ring .entry)) (now (image .entry)) .buffer ⌝ }
     ensures { λ _. ⌜ now (answers .exit) ≡ sets (now (answers .entry)) out
-        (plainRecord 69 (restartVerdict (Storing.stored book (now (ring .entry)) (now (image .entry))) (now (other .entry)))) ⌝ }
+        (plainRecord 69 (restartVerdict (Storing.stored false book (now (ring .entry)) (now (image .entry))) (now (other .entry)))) ⌝ }
 {
-    let stored = store(book, ring, image);
+    let stored = store_kind_1(book, ring, image);
     let size = stored.image;
     match size {
         Image::Refused(refusal) => {

@@ -131,19 +131,19 @@ module _ (l : List ℕ) (ring : List ℤ) where
   unfolding Loading.loaded
   loaded-not e = by-test (isAccepted (Loading.loadVerdict l (length ring))) (λ t. never true refl (rw t at e)) (λ t. rw t)
 
-stored-not : (b : Book) (ring : List ℤ) (buffer : List ℕ) → isAccepted (Storing.stored b ring buffer .verdict) ≡ false → Storing.stored b ring buffer .buffer ≡ buffer
+stored-not : (b : Book) (ring : List ℤ) (buffer : List ℕ) → isAccepted (Storing.stored false b ring buffer .verdict) ≡ false → Storing.stored false b ring buffer .buffer ≡ buffer
 unfolding Storing.stored
-stored-not b ring buffer e = by-test (isAccepted (Storing.storeVerdict b ring (length buffer))) (λ t. never true refl (rw t at e)) (λ t. rw t)
+stored-not b ring buffer e = by-test (isAccepted (Storing.storeVerdict false b ring (length buffer))) (λ t. never true refl (rw t at e)) (λ t. rw t)
 
-buffer-kept : (b : Book) (ring : List ℤ) (buffer : List ℕ) → Typed b → length (Storing.stored b ring buffer .buffer) ≡ length buffer
+buffer-kept : (b : Book) (ring : List ℤ) (buffer : List ℕ) → Typed b → length (Storing.stored false b ring buffer .buffer) ≡ length buffer
 buffer-kept b ring buffer t =
-    by-test (isAccepted (Storing.stored b ring buffer .verdict))
-    (λ e. let ok = stored-ok b ring buffer e in
-    ap (λ (x : Storing.Outcome). length (x .buffer)) (ok-stored b ring buffer ok) ∙ length-append (imageOf b ring) (drop (lengthOf b) buffer)
-    ∙ omega (arith, length-image b ring (ok .book) (head-length b t), length-drop (lengthOf b) buffer, ok .room))
+    by-test (isAccepted (Storing.stored false b ring buffer .verdict))
+    (λ e. let ok = stored-ok false b ring buffer e in
+    ap (λ (x : Storing.Outcome). length (x .buffer)) (ok-stored false b ring buffer ok) ∙ length-append (imageOf false b ring) (drop (lengthOf false b) buffer)
+    ∙ omega (arith, length-image false b ring (ok .book) (head-length (lengthOf false b) 1 b t), length-drop (lengthOf false b) buffer, ok .room))
     (λ e. ap length (stored-not b ring buffer e))
 
-right-ring : (p : Ledger) (buffer ring : ℕ) → isAccepted (Ledger.restartVerdict p buffer ring) ≡ true → ring ≡ ringSize (p .settings .regions) (p .settings .services) (p .settings .window)
+right-ring : (p : Ledger) (buffer ring : ℕ) → isAccepted (Ledger.restartVerdict false p buffer ring) ≡ true → ring ≡ ringSize (p .settings .regions) (p .settings .services) (p .settings .window)
 unfolding Ledger.restartVerdict
 right-ring p buffer ring e =
     let a = passes (ltb buffer (Ledger.imageLength p)) (refused 23) _ refl e in
@@ -294,13 +294,13 @@ module _ (c : List ℕ) (m : Lengths) (s : State) (p : Ledger) (g : Good m s p) 
   -- ---- a restart
   module _ (e₅ : eqb (kindAt c (s .at)) 65 ≡ false) (e₆ : eqb (kindAt c (s .at)) 66 ≡ false) (e₇ : eqb (kindAt c (s .at)) 67 ≡ false) (e₈ : eqb (kindAt c (s .at)) 68 ≡ false) where
     abbrev again : Call
-    again = Calls.restart (s .image) (s .other)
+    again = Calls.restart false (s .image) (s .other)
 
     abbrev fresh : Call
-    fresh = Calls.restart (replicate (m .image) 0) (replicate (m .other) (pos 0))
+    fresh = Calls.restart false (replicate (m .image) 0) (replicate (m .other) (pos 0))
 
     abbrev kept-image : Storing.Outcome
-    kept-image = Storing.stored (s .book) (s .ring) (s .image)
+    kept-image = Storing.stored false (s .book) (s .ring) (s .image)
 
     abbrev back : Loading.Outcome
     back = reload kept-image (s .other)
@@ -308,7 +308,7 @@ module _ (c : List ℕ) (m : Lengths) (s : State) (p : Ledger) (g : Good m s p) 
     handed : kept-image .book ≡ s .book
     unfolding Storing.stored
     handed =
-        by-test (isAccepted (Storing.storeVerdict (s .book) (s .ring) (length (s .image)))) (λ t. rw t) (λ t. rw t)
+        by-test (isAccepted (Storing.storeVerdict false (s .book) (s .ring) (length (s .image)))) (λ t. rw t) (λ t. rw t)
 
     restart-held : heldOf (restart c s) ≡ Book.play h again .state
     unfolding Book.play
@@ -325,10 +325,10 @@ module _ (c : List ℕ) (m : Lengths) (s : State) (p : Ledger) (g : Good m s p) 
     restart-alike : Ledger.play p again ≡ Ledger.play p fresh
     unfolding Ledger.play
     restart-alike =
-        ap₂ (λ (i j : ℕ). record { state = p; answer = Calls.restarted (Ledger.restartVerdict p i j) })
+        ap₂ (λ (i j : ℕ). record { state = p; answer = Calls.restarted (Ledger.restartVerdict false p i j) })
         (g .lent .image ∙ sym (length-replicate (m .image) 0)) (g .lent .other ∙ sym (length-replicate (m .other) (pos 0)))
 
-    verdict-is : Calls.verdictIn (Ledger.play p again .answer) ≡ Ledger.restartVerdict p (length (s .image)) (length (s .other))
+    verdict-is : Calls.verdictIn (Ledger.play p again .answer) ≡ Ledger.restartVerdict false p (length (s .image)) (length (s .other))
     unfolding Ledger.play
     verdict-is = refl
 
@@ -336,7 +336,7 @@ module _ (c : List ℕ) (m : Lengths) (s : State) (p : Ledger) (g : Good m s p) 
     as-long : swapped kept-image (s .other) ≡ true → length (s .ring) ≡ m .other
     as-long t =
         let k = keeps h p again (g .agree) .0 in
-        let e : restartVerdict kept-image (s .other) ≡ Ledger.restartVerdict p (length (s .image)) (length (s .other)) = ap Calls.verdictIn (sym restart-answer ∙ k) ∙ verdict-is in
+        let e : restartVerdict kept-image (s .other) ≡ Ledger.restartVerdict false p (length (s .image)) (length (s .other)) = ap Calls.verdictIn (sym restart-answer ∙ k) ∙ verdict-is in
         ring-length h p (g .agree) ∙ sym (right-ring p (length (s .image)) (length (s .other)) (ap isAccepted (sym e) ∙ t)) ∙ g .lent .other
 
     other-kept : swapped kept-image (s .other) ≡ false → length (reloaded kept-image (s .other)) ≡ length (s .other)

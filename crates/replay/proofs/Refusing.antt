@@ -62,7 +62,7 @@ module _ (b : Book) (v : valid b ≡ false) where
   unfolding Report.reportOf
   no-report r m = rw v
 
-  no-store : (ring : List ℤ) (image : List ℕ) → Storing.stored b ring image ≡ record { verdict = refused 10; length = 0; book = b; buffer = image }
+  no-store : (ring : List ℤ) (image : List ℕ) → Storing.stored false b ring image ≡ record { verdict = refused 10; length = 0; book = b; buffer = image }
   unfolding Storing.stored Storing.storeVerdict
   no-store ring image = rw v
 
@@ -116,7 +116,7 @@ module _ (c : List ℕ) (m : Lengths) (s : State) (u : Unit {0}) (g : Closed m s
       → Stepped refuse c m (Closed m) s u (callAt m c (s .at))
   restart-steps a b d f =
       let e = no-store (s .book) invalid (s .ring) (s .image) in
-      stepped (Calls.restart (replicate (m .image) 0) (replicate (m .other) (pos 0))) (restart c s) 14 (restart-says m c s a b d f) (length-head 14 69 (refused 10)) refl refl
+      stepped (Calls.restart false (replicate (m .image) 0) (replicate (m .other) (pos 0))) (restart c s) 14 (restart-says m c s a b d f) (length-head 14 69 (refused 10)) refl refl
       (ap (λ (x : Storing.Outcome). restarts c s x .answers) e) (ap (λ (x : Storing.Outcome). restarts c s x .book) e)
       (subst (λ (x : Storing.Outcome). Fits m (restarts c s x)) (sym e) (let f = g .lent in record { ring = f .ring; numbers = f .numbers; factors = f .factors; table = f .table; other = f .other; image = f .image }))
 

@@ -33,7 +33,7 @@ appends c s =
     (λ a. by-test (eqb (kindAt c (s .at)) 66) (λ e. rw (a, e) (sets-keeps c s (threshold c s) (plainRecord 66 (Setting.setThreshold (s .book) (thresholdIn c (s .at)) .verdict)) refl refl))
     (λ b. by-test (eqb (kindAt c (s .at)) 67) (λ e. rw (a, b, e) (sets-keeps c s (limits c s) (plainRecord 67 (Setting.setLimits (s .book) (capIn c (s .at)) (floorIn c (s .at)) .verdict)) refl refl))
     (λ d. by-test (eqb (kindAt c (s .at)) 68) (λ e. rw (a, b, d, e) (sets-keeps c s (report c s) (reportRecord (Report.reported (s .book) (regionIn c (s .at)) (marketIn c (s .at)) .numbers)) refl refl))
-    (λ e. rw (a, b, d, e) (sets-keeps c s (restart c s) (plainRecord 69 (restartVerdict (Storing.stored (s .book) (s .ring) (s .image)) (s .other))) refl refl)))))
+    (λ e. rw (a, b, d, e) (sets-keeps c s (restart c s) (plainRecord 69 (restartVerdict (Storing.stored false (s .book) (s .ring) (s .image)) (s .other))) refl refl)))))
 
 none : (c : List ℕ) (s : State) → runs zero c s ≡ s
 unfolding runs

@@ -62,7 +62,7 @@ kindOf (entry ring number e table) = 65
 kindOf (threshold x) = 66
 kindOf (limits c f) = 67
 kindOf (report region market) = 68
-kindOf (restart buffer ring) = 69
+kindOf (restart second buffer ring) = 69
 
 abbrev pub recordOf : Call → Answer → List ℕ
 recordOf c (entered v count table) = entryRecord v count table

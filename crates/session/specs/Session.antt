@@ -49,7 +49,7 @@ called (made-entry ring number e table r ring′ table′) = entry ring number e
 called (made-threshold x r) = threshold x
 called (made-limits c f r) = limits c f
 called (made-report region market r) = report region market
-called (made-restart buffer ring w buffer′ k ring′) = restart buffer ring
+called (made-restart buffer ring w buffer′ k ring′) = restart false buffer ring
 
 -- the function kept its contract, on the book and ring that the host held: `guxhamole_enter`, `guxhamole_set_threshold`,
 -- `guxhamole_set_limits`, `guxhamole_report`; `guxhamole_store` and, where that was accepted, `guxhamole_load`. An entry is lent the
@@ -61,7 +61,7 @@ Meets s (made-threshold x r) = changedOf r ≡ setThreshold (s .book) x
 Meets s (made-limits c f r) = changedOf r ≡ setLimits (s .book) c f
 Meets s (made-report region market r) = numbersOf r ≡ reportOf (s .book) region market
 Meets s (made-restart buffer ring w buffer′ k ring′) =
-    (storedOf w (s .book) buffer′ ≡ stored (s .book) (s .ring) buffer)
+    (storedOf w (s .book) buffer′ ≡ stored false (s .book) (s .ring) buffer)
     × (w .number ≡ 0 → loadedOf k ring′ ≡ loaded (take (w .length) buffer′) ring)
 
 -- what the host goes on with: the book of the answer, and its own ring as the call left it; after a restart the loaded book and ring
