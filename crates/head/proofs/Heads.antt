@@ -10,13 +10,13 @@ use Rattle.laws.specs.Bytes.{numberAt, decode, sizeOf}
 use Rattle.laws.proofs.Fields.{decode-at}
 use Rattle.laws.proofs.Joined.{at-left, at-right}
 use Rattle.book.specs.declared.record.Book.{Book}
-use Rattle.head.specs.Layout.{widths, headSize, firsts, seconds, values}
+use Rattle.head.specs.Layout.{widths, firsts, seconds, values}
 
 pub widths-length : length widths ≡ 117
 unfolding widths
 widths-length = refl
 
-pub widths-size : sizeOf widths ≡ headSize
+pub widths-size : sizeOf widths ≡ 148
 unfolding widths sizeOf
 widths-size = refl
 
@@ -58,8 +58,8 @@ module _ (f p s c m : List ℕ) (ef : length f ≡ 7) (ep : length p ≡ 8) (es 
   mark-at j h = past₃ j (omega arith) ∙ at-right c _ 8 (j - 21) 0 ec (omega arith) ∙ ap (λ (k : ℕ). getD m k 0) (omega arith)
 
 -- ---- the numbers of a book of n bytes
-module _ (n : ℕ) (b : Book) where
-  pub firsts-length : length (firsts n b) ≡ 7
+module _ (n kind : ℕ) (b : Book) where
+  pub firsts-length : length (firsts n kind b) ≡ 7
   unfolding firsts
   firsts-length = refl
 
@@ -67,18 +67,18 @@ module _ (n : ℕ) (b : Book) where
   unfolding seconds
   seconds-length = refl
 
-  pub value-first : (j : ℕ) → j < 7 → getD (values n b) j 0 ≡ getD (firsts n b) j 0
+  pub value-first : (j : ℕ) → j < 7 → getD (values n kind b) j 0 ≡ getD (firsts n kind b) j 0
   unfolding values
-  value-first j h = at-left (firsts n b) _ 7 j 0 firsts-length h
+  value-first j h = at-left (firsts n kind b) _ 7 j 0 firsts-length h
 
-module _ (n : ℕ) (b : Book) (p : length (b .parents) ≡ 8) (c : length (b .counts) ≡ 8) where
-  pub values-length : length (b .marks) ≡ 88 → length (values n b) ≡ 117
+module _ (n kind : ℕ) (b : Book) (p : length (b .parents) ≡ 8) (c : length (b .counts) ≡ 8) where
+  pub values-length : length (b .marks) ≡ 88 → length (values n kind b) ≡ 117
   unfolding values
-  values-length = parts-length (firsts n b) (b .parents) (seconds b) (b .counts) (b .marks) (firsts-length n b) p (seconds-length n b) c
+  values-length = parts-length (firsts n kind b) (b .parents) (seconds b) (b .counts) (b .marks) (firsts-length n kind b) p (seconds-length n kind b) c
 
-  pub value-second : (j : ℕ) → 15 ≤ j → j < 21 → getD (values n b) j 0 ≡ getD (seconds b) (j - 15) 0
+  pub value-second : (j : ℕ) → 15 ≤ j → j < 21 → getD (values n kind b) j 0 ≡ getD (seconds b) (j - 15) 0
   unfolding values
-  value-second = second-at (firsts n b) (b .parents) (seconds b) (b .counts) (b .marks) (firsts-length n b) p (seconds-length n b) c
+  value-second = second-at (firsts n kind b) (b .parents) (seconds b) (b .counts) (b .marks) (firsts-length n kind b) p (seconds-length n kind b) c
 
 -- the six between parents and counts
 pub seconds-are : (b : Book) (x y z : ℕ) → x ≡ ofZ w64 (b .threshold) → y ≡ ofZ w32 (b .cap) → z ≡ ofZ w32 (b .floor) → b .entries ∷ b .position ∷ 0 ∷ x ∷ y ∷ z ∷ [] ≡ seconds b
@@ -86,9 +86,9 @@ unfolding seconds
 seconds-are b x y z p q r = rw (p, q, r)
 
 -- five lists that are the numbers of a head
-pub values-are : (n : ℕ) (b : Book) (f s : List ℕ) → f ≡ firsts n b → s ≡ seconds b → f ++ (b .parents ++ (s ++ (b .counts ++ b .marks))) ≡ values n b
+pub values-are : (n kind : ℕ) (b : Book) (f s : List ℕ) → f ≡ firsts n kind b → s ≡ seconds b → f ++ (b .parents ++ (s ++ (b .counts ++ b .marks))) ≡ values n kind b
 unfolding values
-values-are n b f s p q = rw (p, q)
+values-are n kind b f s p q = rw (p, q)
 
 -- ---- the widths, in the same five parts
 module _ (j : ℕ) where

@@ -1,3 +1,4 @@
 pub mod Counts
 pub mod Heads
 pub mod Rows
+pub mod Tails

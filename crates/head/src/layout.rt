@@ -12,19 +12,27 @@ use codec::get_word;
 use codec::put;
 use codec::signed64;
 ghost use mathlib.Core.Path.{_≡_};
+ghost use mathlib.Core.Bool.{true};
 ghost use mathlib.Core.List.{_++_};
 ghost use Prim.Native.Nat.{_+_, _*_, _≤_, _<_};
 ghost use lib.ListN.{length, getD};
 ghost use lib.Seq.{sets};
 ghost use Rattle.laws.specs.Lists.{tabulate};
 ghost use Rattle.laws.specs.Bytes.{numberAt, encode};
-ghost use Rattle.head.specs.Layout.{widths, headSize, lengthOf, firsts, seconds, values, nextOf, headFrom};
+ghost use Rattle.head.specs.Layout.{widths, kindOf, headSize, lengthOf, tailWidths, tail, firsts, seconds, values, nextOf, isSecond, endIn, headFrom};
+
+// Where the prices of an image start, of kind 2 if `second`.
+pub fn head_size(second: bool) -> usize
+    ensures { λ r. ⌜ r ≡ headSize second ⌝ }
+{
+    if second { 156 } else { 148 }
+}
 
 // The length of a book's image, for any numbers.
-pub fn image_length(book: Book) -> usize
-    ensures { λ r. ⌜ (r ≡ lengthOf book) × (r ≤ 536862868) ⌝ }
+pub fn image_length(second: bool, book: Book) -> usize
+    ensures { λ r. ⌜ (r ≡ lengthOf second book) × (r ≤ 536862876) ⌝ }
 {
-    148 + 4 * how_many(book)
+    head_size(second) + 4 * how_many(book)
 }
 
 // How many bytes a field takes: those before the parents, and those between the parents and the counts, by a table.
@@ -51,13 +59,20 @@ fn width(j: usize) -> usize
     1
 }
 
+// The number of a kind.
+fn kind_of(second: bool) -> u64
+    ensures { λ r. ⌜ r ≡ kindOf second ⌝ }
+{
+    if second { 2 } else { 1 }
+}
+
 // The numbers before the parents, of an image of `size` bytes, and those between the parents and the counts.
-fn first_fields(book: Book, size: u32) -> [u64; 7]
-    ensures { λ r. ⌜ r ≡ firsts size book ⌝ }
+fn first_fields(book: Book, size: u32, second: bool) -> [u64; 7]
+    ensures { λ r. ⌜ r ≡ firsts size (kindOf second) book ⌝ }
 {
     [
         size as u64,
-        1,
+        kind_of(second),
         book.regions as u64,
         book.services as u64,
         book.window as u64,
@@ -107,30 +122,41 @@ fn field<'a>(
     marks[j - 29] as u64
 }
 
-// The head of an image of `size` bytes.
-pub fn put_head(book: Book, size: u32, buffer: &mut [u8])
-    requires { ⌜ headSize ≤ length (now buffer) ⌝ }
-    ensures { λ _. ⌜ now (buffer .exit) ≡ sets (now (buffer .entry)) 0 (encode widths (values size book)) ⌝ }
-    ensures { λ _. ⌜ length (encode widths (values size book)) ≡ headSize ⌝ }
+// The head of an image of `size` bytes, of kind 2 if `second`.
+pub fn put_head(book: Book, size: u32, second: bool, buffer: &mut [u8])
+    requires { ⌜ 148 ≤ length (now buffer) ⌝ }
+    ensures { λ _. ⌜ now (buffer .exit) ≡ sets (now (buffer .entry)) 0 (encode widths (values size (kindOf second) book)) ⌝ }
+    ensures { λ _. ⌜ length (encode widths (values size (kindOf second) book)) ≡ 148 ⌝ }
 {
     let parents = book.parents;
     let counts = book.counts;
     let marks = book.marks;
-    let first = first_fields(book, size);
-    let second = second_fields(book);
+    let first = first_fields(book, size, second);
+    let middle = second_fields(book);
     let mut at: usize = 0;
     let mut j: usize = 0;
     while j < 117 {
         let w = width(j);
-        let x = field(&first, &parents, &second, &counts, &marks, j);
+        let x = field(&first, &parents, &middle, &counts, &marks, j);
         put(buffer, at, w, x);
         at += w;
         j += 1;
     }
 }
 
+// What kind 2 has between the head and the prices: the ends, two zeros and four bytes that are kept. No book has ends yet.
+pub fn put_tail(book: Book, buffer: &mut [u8])
+    requires { ⌜ 156 ≤ length (now buffer) ⌝ }
+    ensures { λ _. ⌜ now (buffer .exit) ≡ sets (now (buffer .entry)) 148 (encode tailWidths (tail book)) ⌝ }
+{
+    put(buffer, 148, 1, 255);
+    put(buffer, 149, 1, 255);
+    put(buffer, 150, 2, 0);
+    put(buffer, 152, 4, 4294967295);
+}
+
 fn read_counts(bytes: &[u8]) -> [u16; 8]
-    requires { ⌜ headSize ≤ length (now bytes) ⌝ }
+    requires { ⌜ 148 ≤ length (now bytes) ⌝ }
     ensures { λ r. ⌜ r ≡ tabulate 8 (λ i. numberAt (now (bytes .entry)) (44 + 2 * i) 2) ⌝ }
 {
     let mut a = [0u16; 8];
@@ -143,7 +169,7 @@ fn read_counts(bytes: &[u8]) -> [u16; 8]
 }
 
 fn read_marks(bytes: &[u8]) -> [u8; 88]
-    requires { ⌜ headSize ≤ length (now bytes) ⌝ }
+    requires { ⌜ 148 ≤ length (now bytes) ⌝ }
     ensures { λ r. ⌜ r ≡ tabulate 88 (λ i. numberAt (now (bytes .entry)) (60 + i) 1) ⌝ }
 {
     let mut a = [0u8; 88];
@@ -174,9 +200,28 @@ fn next_places(window: u16, counts: [u16; 8]) -> [u16; 8]
     a
 }
 
+// Whether the kind is 2.
+pub fn is_second(bytes: &[u8]) -> bool
+    requires { ⌜ 148 ≤ length (now bytes) ⌝ }
+    ensures { λ x. ⌜ x ≡ isSecond (now (bytes .entry)) ⌝ }
+{
+    get_u16(bytes, 4) == 2
+}
+
+// The end of the additional link at a place of the tail; kind 1 has no tail, and none of the ends.
+pub fn end_in(bytes: &[u8], at: usize) -> u8
+    requires { ⌜ (148 ≤ length (now bytes)) × (isSecond (now bytes) ≡ true → at < length (now bytes)) ⌝ }
+    ensures { λ x. ⌜ x ≡ endIn (now (bytes .entry)) at ⌝ }
+{
+    if is_second(bytes) {
+        return get_u8(bytes, at);
+    }
+    255
+}
+
 // The book that an image's head says, before its sums are added up.
 pub fn head_from(bytes: &[u8]) -> Book
-    requires { ⌜ headSize ≤ length (now bytes) ⌝ }
+    requires { ⌜ 148 ≤ length (now bytes) ⌝ }
     ensures { λ r. ⌜ r ≡ headFrom (now (bytes .entry)) ⌝ }
 {
     let window = get_u16(bytes, 8);

@@ -7,23 +7,23 @@ use lib.ListN.{length, drop}
 use lib.Seq.{sets}
 use Rattle.laws.specs.Bytes.{encode, sizeOf}
 use Rattle.laws.proofs.Fields.{length-encode, fields-step, fields-done, size-step}
-use Rattle.head.specs.Layout.{widths, headSize}
+use Rattle.head.specs.Layout.{widths, kindOf}
 use Rattle.head.proofs.Heads.{widths-length, widths-size, parts-length, firsts-length, seconds-length, values-are}
 use borrow.Author.Needs.{needs}
 use Rattle.head.proofs.layout.put_head.Statement.{statement}
 use Rattle.head.proofs.layout.put_head.Tie as tie
 
 abbrev Inv-loop : tie.InvT-loop
-Inv-loop size buffer₀ parents counts marks first second at₀ j₀ buffer at j = (j ≤ 117) × (length buffer ≡ length buffer₀) × (at + sizeOf (drop j widths) ≡ headSize) × (sets buffer at (encode (drop j widths) (drop j (first ++ (parents ++ (second ++ (counts ++ marks)))))) ≡ sets buffer₀ 0 (encode widths (first ++ (parents ++ (second ++ (counts ++ marks))))))
+Inv-loop size second buffer₀ parents counts marks first middle at₀ j₀ buffer at j = (j ≤ 117) × (length buffer ≡ length buffer₀) × (at + sizeOf (drop j widths) ≡ 148) × (sets buffer at (encode (drop j widths) (drop j (first ++ (parents ++ (middle ++ (counts ++ marks)))))) ≡ sets buffer₀ 0 (encode widths (first ++ (parents ++ (middle ++ (counts ++ marks))))))
 
 abbrev μ-loop : tie.MeasureT-loop
-μ-loop size buffer₀ parents counts marks first second at₀ j₀ buffer at j = 117 - j
+μ-loop size second buffer₀ parents counts marks first middle at₀ j₀ buffer at j = 117 - j
 
 -- there is room for the field
 room : (c : tie.After-width Inv-loop μ-loop) → c .before .before .loop .at + c .width .result ≤ length (c .before .before .loop .buffer)
 room c =
     let l = c .before .before .loop in
-    omega (arith, size-step widths (l .at) (l .j) (c .width .result) headSize (omega (arith, widths-length)) (c .width .ensures) (l .inv .2))
+    omega (arith, size-step widths (l .at) (l .j) (c .width .result) 148 (omega (arith, widths-length)) (c .width .ensures) (l .inv .2))
 
 -- a book's arrays have their lengths
 parents-length : (c : tie.After-parents Inv-loop μ-loop) → length (c .before .before .args .book .parents) ≡ 8
@@ -42,7 +42,7 @@ lengths c =
     let s = c .before in
     let a = s .before .before .before .before .before .before .args in
     let m = s .before .before in
-    (ap length (s .before .first-fields .ensures) ∙ firsts-length (a .size) (a .book), parents-length (m .before .before), ap length (s .second-fields .ensures) ∙ seconds-length (a .size) (a .book), counts-length (m .before), marks-length m)
+    (ap length (s .before .first-fields .ensures) ∙ firsts-length (a .size) (kindOf (a .second)) (a .book), parents-length (m .before .before), ap length (s .second-fields .ensures) ∙ seconds-length (a .size) (kindOf (a .second)) (a .book), counts-length (m .before), marks-length m)
 
 first-fields-requires : tie.Need-first-fields-requires Inv-loop μ-loop
 first-fields-requires c κs = search needs
@@ -114,7 +114,7 @@ returns c =
     let f = s .before .first-fields .result in
     let t = s .second-fields .result in
     let vs = f ++ (a .book .parents ++ (t ++ (a .book .counts ++ a .book .marks))) in
-    let e = values-are (a .size) (a .book) f t (s .before .first-fields .ensures) (s .second-fields .ensures) in
+    let e = values-are (a .size) (kindOf (a .second)) (a .book) f t (s .before .first-fields .ensures) (s .second-fields .ensures) in
     let k = lengths (c .before) in
     let n : length vs ≡ 117 = parts-length f (a .book .parents) t (a .book .counts) (a .book .marks) (k .0) (k .1) (k .2) (k .3) (k .4) in (
       fields-done widths (drop (l .j) vs) (l .buffer) _ (l .at) (l .j) (omega (arith, widths-length)) (l .inv .3)
