@@ -67,6 +67,10 @@ seconds b = b .entries ∷ b .position ∷ 0 ∷ ofZ w64 (b .threshold) ∷ ofZ 
 unfoldable pub values : ℕ → ℕ → Book → List ℕ
 values n kind b = firsts n kind b ++ (b .parents ++ (seconds b ++ (b .counts ++ b .marks)))
 
+-- what stands before the prices
+abbrev pub frontOf : ℕ → Bool → Book → List ℕ
+frontOf n second b = encode widths (values n (kindOf second) b) ++ tailOf second b
+
 -- the whole image of a book and its ring
 unfoldable pub imageOf : Bool → Book → List ℤ → List ℕ
 imageOf second b ring =

@@ -19,7 +19,7 @@ ghost use lib.ListN.{length, getD};
 ghost use lib.Seq.{sets};
 ghost use Rattle.laws.specs.Lists.{tabulate};
 ghost use Rattle.laws.specs.Bytes.{numberAt, encode};
-ghost use Rattle.head.specs.Layout.{widths, kindOf, headSize, lengthOf, tailWidths, tail, firsts, seconds, values, nextOf, isSecond, endIn, headFrom};
+ghost use Rattle.head.specs.Layout.{widths, kindOf, headSize, lengthOf, tailWidths, tail, firsts, seconds, values, frontOf, nextOf, isSecond, endIn, headFrom};
 
 // Where the prices of an image start, of kind 2 if `second`.
 pub fn head_size(second: bool) -> usize
@@ -123,7 +123,7 @@ fn field<'a>(
 }
 
 // The head of an image of `size` bytes, of kind 2 if `second`.
-pub fn put_head(book: Book, size: u32, second: bool, buffer: &mut [u8])
+fn put_head(book: Book, size: u32, second: bool, buffer: &mut [u8])
     requires { ⌜ 148 ≤ length (now buffer) ⌝ }
     ensures { λ _. ⌜ now (buffer .exit) ≡ sets (now (buffer .entry)) 0 (encode widths (values size (kindOf second) book)) ⌝ }
     ensures { λ _. ⌜ length (encode widths (values size (kindOf second) book)) ≡ 148 ⌝ }
@@ -145,7 +145,7 @@ pub fn put_head(book: Book, size: u32, second: bool, buffer: &mut [u8])
 }
 
 // What kind 2 has between the head and the prices: the ends, two zeros and four bytes that are kept. No book has ends yet.
-pub fn put_tail(book: Book, buffer: &mut [u8])
+fn put_tail(book: Book, buffer: &mut [u8])
     requires { ⌜ 156 ≤ length (now buffer) ⌝ }
     ensures { λ _. ⌜ now (buffer .exit) ≡ sets (now (buffer .entry)) 148 (encode tailWidths (tail book)) ⌝ }
 {
@@ -153,6 +153,18 @@ pub fn put_tail(book: Book, buffer: &mut [u8])
     put(buffer, 149, 1, 255);
     put(buffer, 150, 2, 0);
     put(buffer, 152, 4, 4294967295);
+}
+
+// All that stands before the prices of an image of `size` bytes.
+pub fn put_front(second: bool, book: Book, size: u32, buffer: &mut [u8])
+    requires { ⌜ headSize second ≤ length (now buffer) ⌝ }
+    ensures { λ _. ⌜ now (buffer .exit) ≡ sets (now (buffer .entry)) 0 (frontOf size second book) ⌝ }
+    ensures { λ _. ⌜ length (encode widths (values size (kindOf second) book)) ≡ 148 ⌝ }
+{
+    put_head(book, size, second, buffer);
+    if second {
+        put_tail(book, buffer);
+    }
 }
 
 fn read_counts(bytes: &[u8]) -> [u16; 8]
