@@ -220,6 +220,14 @@ pub fn is_second(bytes: &[u8]) -> bool
     get_u16(bytes, 4) == 2
 }
 
+// Where the prices of an image start, by its kind.
+pub fn prices_from(bytes: &[u8]) -> usize
+    requires { ⌜ 148 ≤ length (now bytes) ⌝ }
+    ensures { λ r. ⌜ r ≡ headSize (isSecond (now (bytes .entry))) ⌝ }
+{
+    head_size(is_second(bytes))
+}
+
 // The end of the additional link at a place of the tail; kind 1 has no tail, and none of the ends.
 pub fn end_in(bytes: &[u8], at: usize) -> u8
     requires { ⌜ (148 ≤ length (now bytes)) × (isSecond (now bytes) ≡ true → at < length (now bytes)) ⌝ }
