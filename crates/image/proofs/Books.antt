@@ -1,5 +1,5 @@
 -- A book and the numbers of its head, there and back. Assumes nothing.
-use mathlib.Core.Path.{_≡_, sym, ap, ap₂, _∙_}
+use mathlib.Core.Path.{_≡_, refl, sym, ap, ap₂, _∙_}
 use mathlib.Core.List.{List, [], _∷_, _++_, append-assoc}
 use Prim.Native.Nat.{ℕ, _+_, _-_, _<_, _≤_}
 use native.Mathlib.Omega.{arith}
@@ -12,6 +12,7 @@ use mir.Facts.{toZ-ofZ, ofZ-toZ}
 use Rattle.laws.specs.Lists.{run, tabulate}
 use Rattle.laws.proofs.Joined.{take-run}
 use Rattle.book.specs.declared.record.Book.{Book}
+use Rattle.book.specs.Record.{fromOf, toOf}
 use Rattle.head.specs.Layout.{firsts, seconds, values, nextOf, bookOf}
 use Rattle.head.proofs.Heads.{seconds-length, value-first, value-second}
 
@@ -34,35 +35,44 @@ anewWith b sums = record {
   marks = b .marks;
 }
 
+-- with the ends that it had
+pub anew-from : (b : Book) (s : List ℤ) → fromOf (anewWith b s) ≡ fromOf b
+unfolding fromOf
+anew-from b s = refl
+
+pub anew-to : (b : Book) (s : List ℤ) → toOf (anewWith b s) ≡ toOf b
+unfolding toOf
+anew-to b s = refl
+
 -- ---- the book of a book's numbers
-module _ (n : ℕ) (b : Book) (p : length (b .parents) ≡ 8) (c : length (b .counts) ≡ 8) (m : length (b .marks) ≡ 88) where
-  first : (j : ℕ) → j < 7 → getD (values n b) j 0 ≡ getD (n ∷ 1 ∷ b .regions ∷ b .services ∷ b .window ∷ b .halves ∷ 0 ∷ []) j 0
+module _ (n kind : ℕ) (b : Book) (p : length (b .parents) ≡ 8) (c : length (b .counts) ≡ 8) (m : length (b .marks) ≡ 88) where
+  first : (j : ℕ) → j < 7 → getD (values n kind b) j 0 ≡ getD (n ∷ kind ∷ b .regions ∷ b .services ∷ b .window ∷ b .halves ∷ 0 ∷ []) j 0
   unfolding firsts
-  first j h = value-first n b j h
+  first j h = value-first n kind b j h
 
-  second : (j : ℕ) → 15 ≤ j → j < 21 → getD (values n b) j 0 ≡ getD (b .entries ∷ b .position ∷ 0 ∷ ofZ w64 (b .threshold) ∷ ofZ w32 (b .cap) ∷ ofZ w32 (b .floor) ∷ []) (j - 15) 0
+  second : (j : ℕ) → 15 ≤ j → j < 21 → getD (values n kind b) j 0 ≡ getD (b .entries ∷ b .position ∷ 0 ∷ ofZ w64 (b .threshold) ∷ ofZ w32 (b .cap) ∷ ofZ w32 (b .floor) ∷ []) (j - 15) 0
   unfolding seconds
-  second j h l = value-second n b p c j h l
+  second j h l = value-second n kind b p c j h l
 
-  parents-are : take 8 (drop 7 (values n b)) ≡ b .parents
+  parents-are : take 8 (drop 7 (values n kind b)) ≡ b .parents
   unfolding values firsts
   parents-are = take-at (b .parents) (seconds b ++ (b .counts ++ b .marks)) 8 p
 
-  counts-are : take 8 (drop 21 (values n b)) ≡ b .counts
+  counts-are : take 8 (drop 21 (values n kind b)) ≡ b .counts
   unfolding values firsts
   counts-are =
       ap (λ (x : List ℕ). take 8 (drop 14 x)) (sym (append-assoc (b .parents) (seconds b) (b .counts ++ b .marks)))
-      ∙ ap (take 8) (drop-at (b .parents ++ seconds b) (b .counts ++ b .marks) 14 (length-append (b .parents) (seconds b) ∙ omega (arith, seconds-length n b)))
+      ∙ ap (take 8) (drop-at (b .parents ++ seconds b) (b .counts ++ b .marks) 14 (length-append (b .parents) (seconds b) ∙ omega (arith, seconds-length n kind b)))
       ∙ take-at (b .counts) (b .marks) 8 c
 
-  marks-are : take 88 (drop 29 (values n b)) ≡ b .marks
+  marks-are : take 88 (drop 29 (values n kind b)) ≡ b .marks
   unfolding values firsts
   marks-are =
       ap (λ (x : List ℕ). take 88 (drop 22 x)) (ap (λ (x : List ℕ). b .parents ++ x) (sym (append-assoc (seconds b) (b .counts) (b .marks))) ∙ sym (append-assoc (b .parents) (seconds b ++ b .counts) (b .marks)))
-      ∙ ap (take 88) (drop-at (b .parents ++ (seconds b ++ b .counts)) (b .marks) 22 (simp length-append (omega (arith, seconds-length n b))))
+      ∙ ap (take 88) (drop-at (b .parents ++ (seconds b ++ b .counts)) (b .marks) 22 (simp length-append (omega (arith, seconds-length n kind b))))
       ∙ take-all 88 (b .marks) (omega arith)
 
-  pub book-values : (s : List ℤ) → SFits w64 (b .threshold) → SFits w32 (b .cap) → SFits w32 (b .floor) → bookOf (values n b) s ≡ anewWith b s
+  pub book-values : (s : List ℤ) → SFits w64 (b .threshold) → SFits w32 (b .cap) → SFits w32 (b .floor) → bookOf (values n kind b) s ≡ anewWith b s
   unfolding bookOf
   book-values s t k f =
       rw (
@@ -99,10 +109,10 @@ module _ (vs : List ℕ) (k : length vs ≡ 117) where
   abbrev v : ℕ → ℕ
   v i = getD vs i 0
 
-  firsts-are : (n : ℕ) → n ≡ v 0 → v 1 ≡ 1 → v 6 ≡ 0 → n ∷ 1 ∷ v 2 ∷ v 3 ∷ v 4 ∷ v 5 ∷ 0 ∷ [] ≡ run 7 0 (λ i. getD vs i 0)
+  firsts-are : (n kind : ℕ) → n ≡ v 0 → v 1 ≡ kind → v 6 ≡ 0 → n ∷ kind ∷ v 2 ∷ v 3 ∷ v 4 ∷ v 5 ∷ 0 ∷ [] ≡ run 7 0 (λ i. getD vs i 0)
   unfolding run
-  firsts-are n e one z =
-      ap (λ (x : ℕ). x ∷ 1 ∷ v 2 ∷ v 3 ∷ v 4 ∷ v 5 ∷ 0 ∷ []) e ∙ ap (λ (x : ℕ). v 0 ∷ x ∷ v 2 ∷ v 3 ∷ v 4 ∷ v 5 ∷ 0 ∷ []) (sym one)
+  firsts-are n kind e one z =
+      ap (λ (x : ℕ). x ∷ kind ∷ v 2 ∷ v 3 ∷ v 4 ∷ v 5 ∷ 0 ∷ []) e ∙ ap (λ (x : ℕ). v 0 ∷ x ∷ v 2 ∷ v 3 ∷ v 4 ∷ v 5 ∷ 0 ∷ []) (sym one)
       ∙ ap (λ (x : ℕ). v 0 ∷ v 1 ∷ v 2 ∷ v 3 ∷ v 4 ∷ v 5 ∷ x ∷ []) (sym z)
 
   seconds-are : v 17 ≡ 0 → Fits w64 (v 18) → Fits w32 (v 19) → Fits w32 (v 20)
@@ -110,7 +120,7 @@ module _ (vs : List ℕ) (k : length vs ≡ 117) where
   unfolding run
   seconds-are y t c f = rw (ofZ-toZ t, ofZ-toZ c, ofZ-toZ f) (ap (λ (x : ℕ). v 15 ∷ v 16 ∷ x ∷ v 18 ∷ v 19 ∷ v 20 ∷ []) (sym y))
 
-  pub values-book : (n : ℕ) (s : List ℤ) → n ≡ v 0 → v 1 ≡ 1 → v 6 ≡ 0 → v 17 ≡ 0 → Fits w64 (v 18) → Fits w32 (v 19) → Fits w32 (v 20) → values n (bookOf vs s) ≡ vs
+  pub values-book : (n kind : ℕ) (s : List ℤ) → n ≡ v 0 → v 1 ≡ kind → v 6 ≡ 0 → v 17 ≡ 0 → Fits w64 (v 18) → Fits w32 (v 19) → Fits w32 (v 20) → values n kind (bookOf vs s) ≡ vs
   unfolding values firsts seconds bookOf
-  values-book n s e one z y t c f =
-      ap₂ (λ (p q : List ℕ). p ++ (take 8 (drop 7 vs) ++ (q ++ (take 8 (drop 21 vs) ++ take 88 (drop 29 vs))))) (firsts-are n e one z) (seconds-are y t c f) ∙ in-parts
+  values-book n kind s e one z y t c f =
+      ap₂ (λ (p q : List ℕ). p ++ (take 8 (drop 7 vs) ++ (q ++ (take 8 (drop 21 vs) ++ take 88 (drop 29 vs))))) (firsts-are n kind e one z) (seconds-are y t c f) ∙ in-parts

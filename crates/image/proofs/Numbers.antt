@@ -1,6 +1,6 @@
 -- The numbers that a load and an image check can answer. Assumes nothing.
 use mathlib.Core.Path.{_≡_, refl, sym, ap, _∙_}
-use mathlib.Core.Bool.{Bool, true, false, not, _&&_}
+use mathlib.Core.Bool.{Bool, true, false, not}
 use mathlib.Core.List.{List, [], _∷_}
 use mathlib.Core.Logic.{_⊎_, inl, inr}
 use Prim.Native.Nat.{ℕ}
@@ -12,10 +12,9 @@ use Rattle.laws.specs.Bytes.{numberAt}
 use Rattle.laws.proofs.Tests.{by-test}
 use Rattle.pricing.specs.Verdict.{Verdict, accepted, refused}
 use Rattle.book.specs.Record.{isAccepted}
-use Rattle.book.specs.Validity.{valid}
 use Rattle.head.specs.Counted.{howMany}
-use Rattle.head.specs.Layout.{headSize, lengthOf, headFrom}
-use Rattle.image.specs.Loading.{zerosOk, headVerdict, firstBad, ringOf, loadVerdict, checked}
+use Rattle.head.specs.Layout.{lengthOf, isSecond, headFrom}
+use Rattle.image.specs.Loading.{lacksTail, kindOk, fieldsOk, headVerdict, firstBad, ringOf, loadVerdict, checked}
 
 -- a number of a list
 abbrev pub OneOf : ℕ → List ℕ → Type 0
@@ -31,11 +30,12 @@ picked P false a b p q = q
 head-has : (P : Verdict → Type 0) → P (refused 24) → P (refused 25) → P (refused 26) → P (refused 27) → P accepted → (l : List ℕ) → P (headVerdict l)
 unfolding headVerdict
 head-has P a b c d e l =
-    picked P (ltb (length l) headSize) _ _ a
+    picked P (ltb (length l) 148) _ _ a
     (picked P (not (eqb (numberAt l 0 4) (length l))) _ _ a
-    (picked P (not (eqb (numberAt l 4 2) 1)) _ _ b
-    (picked P (not (zerosOk l && valid (headFrom l))) _ _ c
-    (picked P (not (eqb (length l) (lengthOf (headFrom l)))) _ _ d e))))
+    (picked P (lacksTail l) _ _ a
+    (picked P (not (kindOk l)) _ _ b
+    (picked P (not (fieldsOk l)) _ _ c
+    (picked P (not (eqb (length l) (lengthOf (isSecond l) (headFrom l)))) _ _ d e)))))
 
 pub load-number : (l : List ℕ) (n : ℕ) → OneOf (loadVerdict l n .number) (24 ∷ 25 ∷ 26 ∷ 27 ∷ 11 ∷ 16 ∷ 0 ∷ [])
 unfolding loadVerdict

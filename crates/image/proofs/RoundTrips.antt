@@ -1,7 +1,7 @@
 -- The round trips of an image: the statements to read first, each with its words. `There` and `Back` have the proofs. A call is
 -- accepted where its verdict's number is 0. Assumes nothing.
 use mathlib.Core.Path.{_≡_, refl, sym, _∙_}
-use mathlib.Core.Bool.{true, false}
+use mathlib.Core.Bool.{Bool, true, false}
 use mathlib.Core.List.{List, [], _∷_, _++_}
 use mathlib.Core.Logic.{_⊎_}
 use Prim.Native.Nat.{ℕ, _≤_, _<_}
@@ -9,25 +9,26 @@ use lib.Dec.{eqb}
 use lib.IntN.{ℤ}
 use lib.ListN.{length, getD, take, drop}
 use lib.Seq.{take-at}
+use Rattle.laws.proofs.Tests.{never}
 use Rattle.laws.proofs.Lists.{length-run}
 use Rattle.pricing.specs.Verdict.{accepted, refused}
 use Rattle.book.specs.declared.record.Book.{Book}
-use Rattle.book.specs.Record.{closed, ringSize, isAccepted}
+use Rattle.book.specs.Record.{closed, ringSize, hasLink, linksKnown, isAccepted}
 use Rattle.book.specs.Validity.{valid}
 use Rattle.book_calls.specs.Report.{reportOf}
 use Rattle.book.proofs.Validities.{is-valid}
 use Rattle.head.specs.Counted.{countAt, inOrder}
-use Rattle.head.specs.Layout.{lengthOf, headFrom, imageOf}
+use Rattle.head.specs.Layout.{kindOf, lengthOf, isSecond, headFrom, imageOf}
 use Rattle.image.specs.Storing.{pricesOk, stored}
 use Rattle.image.specs.Loading.{ringOf, loadVerdict, bookFrom, ringFrom, loaded, checked}
 use Rattle.image.specs.Same.{Same}
 use Rattle.image.proofs.Typed.{Typed}
-use Rattle.image.proofs.Books.{anewWith}
+use Rattle.image.proofs.Books.{anewWith, anew-from, anew-to}
 use Rattle.image.proofs.Markets.{count-of}
 use Rattle.image.proofs.Verdicts.{StoreOk, LoadOk, loaded-ok, ok-loaded, stored-ok, ok-stored, other-ring}
 use Rattle.image.proofs.Prices.{laid, length-laid}
 use Rattle.image.proofs.Anew.{order-anew, valid-anew}
-use Rattle.image.proofs.There.{valid-from, prices-from, ring-size-from, typed-from, length-from, store-from, there}
+use Rattle.image.proofs.There.{valid-from, prices-from, ring-size-from, typed-from, length-from, from-is, store-from, there}
 use Rattle.image.proofs.Lengths.{head-length, length-image}
 use Rattle.image.proofs.Back.{load-back, book-back, ring-back, head-is}
 use Rattle.image.proofs.Sameness as sameness
@@ -44,37 +45,20 @@ anew b = anewWith b (b .sums)
 abbrev pub relaid : Book → List ℤ → List ℤ
 relaid b ring = laid b (inOrder b ring)
 
-module _ (b : Book) (ring : List ℤ) (buffer : List ℕ) (t : Typed b) (e : isAccepted (stored b ring buffer .verdict) ≡ true) where
-  ok : StoreOk b ring (length buffer)
-  ok = stored-ok b ring buffer e
+-- kind 1 is known at any time
+pub first-known : false ≡ true → linksKnown ≡ true
+first-known e = never false e refl
+
+module _ (second : Bool) (b : Book) (ring : List ℤ) (buffer : List ℕ) (t : Typed b) (e : isAccepted (stored second b ring buffer .verdict) ≡ true) where
+  ok : StoreOk second b ring (length buffer)
+  ok = stored-ok second b ring buffer e
 
   -- the image's bytes are the first of the buffer, as many as the answer says
-  pub image-bytes : take (lengthOf b) (stored b ring buffer .buffer) ≡ imageOf b ring
-  image-bytes = rw (ok-stored b ring buffer ok) (take-at (imageOf b ring) (drop (lengthOf b) buffer) (lengthOf b) (length-image b ring (ok .book) (head-length b t)))
+  pub image-bytes : take (lengthOf second b) (stored second b ring buffer .buffer) ≡ imageOf second b ring
+  image-bytes = rw (ok-stored second b ring buffer ok) (take-at (imageOf second b ring) (drop (lengthOf second b) buffer) (lengthOf second b) (length-image second b ring (ok .book) (head-length (lengthOf second b) (kindOf second) b t)))
 
-  pub image-length : stored b ring buffer .length ≡ lengthOf b
-  image-length = rw (ok-stored b ring buffer ok)
-
-  -- A book whose store is accepted, loaded from exactly its image's bytes into any ring of its length: accepted, and the book and
-  -- the ring are those two, whatever the ring held
-  pub load-of-store : (g : List ℤ) → length g ≡ ringSize (b .regions) (b .services) (b .window)
-      → loaded (take (lengthOf b) (stored b ring buffer .buffer)) g ≡ record { verdict = accepted; book = anew b; ring = relaid b ring }
-  load-of-store g h =
-      let n = length buffer in
-      rw (image-bytes, ok-loaded (imageOf b ring) g (load-back b ring n t ok (length g) h), book-back b ring n t ok, ring-back b ring n t ok)
-
-  -- the same from as many bytes as the answer says
-  pub reload : (g : List ℤ) → length g ≡ ringSize (b .regions) (b .services) (b .window)
-      → loaded (take (stored b ring buffer .length) (stored b ring buffer .buffer)) g ≡ record { verdict = accepted; book = anew b; ring = relaid b ring }
-  reload g h = rw image-length (load-of-store g h)
-
-  -- into a ring of another length: 11
-  pub load-other-ring : (g : List ℤ) → eqb (length g) (ringSize (b .regions) (b .services) (b .window)) ≡ false
-      → loaded (take (lengthOf b) (stored b ring buffer .buffer)) g ≡ record { verdict = refused 11; book = closed; ring = g }
-  load-other-ring g h =
-      let n = length buffer in
-      rw image-bytes
-      (other-ring (imageOf b ring) g (load-back b ring n t ok (ringSize (b .regions) (b .services) (b .window)) refl .head) (rw (head-is b ring n t ok) h))
+  pub image-length : stored second b ring buffer .length ≡ lengthOf second b
+  image-length = rw (ok-stored second b ring buffer ok)
 
   -- rule 10 accepts that book, and its arrays and ring have their lengths
   pub anew-valid : valid (anew b) ≡ true
@@ -94,6 +78,8 @@ module _ (b : Book) (ring : List ℤ) (buffer : List ℕ) (t : Typed b) (e : isA
     window = refl;
     halves = refl;
     parents = refl;
+    from = sym (anew-from b (b .sums));
+    to = sym (anew-to b (b .sums));
     threshold = refl;
     cap = refl;
     floor = refl;
@@ -109,9 +95,32 @@ module _ (b : Book) (ring : List ℤ) (buffer : List ℕ) (t : Typed b) (e : isA
     accepted′ = anew-valid;
   }
 
-  pub stored-loads-same : (g : List ℤ) → length g ≡ ringSize (b .regions) (b .services) (b .window)
-      → Same b ring (loaded (take (lengthOf b) (stored b ring buffer .buffer)) g .book) (loaded (take (lengthOf b) (stored b ring buffer .buffer)) g .ring)
-  stored-loads-same g h = rw (load-of-store g h) anew-same
+  -- where the kind is known: kind 1 is, and kind 2 wherever a book has the link
+  module _ (known : second ≡ true → linksKnown ≡ true) where
+    -- A book whose store is accepted, loaded from exactly its image's bytes into any ring of its length: accepted, and the book and
+    -- the ring are those two, whatever the ring held
+    pub load-of-store : (g : List ℤ) → length g ≡ ringSize (b .regions) (b .services) (b .window)
+        → loaded (take (lengthOf second b) (stored second b ring buffer .buffer)) g ≡ record { verdict = accepted; book = anew b; ring = relaid b ring }
+    load-of-store g h =
+        let n = length buffer in
+        rw (image-bytes, ok-loaded (imageOf second b ring) g (load-back second b ring n t ok known (length g) h), book-back second b ring n t ok known, ring-back second b ring n t ok known)
+
+    -- the same from as many bytes as the answer says
+    pub reload : (g : List ℤ) → length g ≡ ringSize (b .regions) (b .services) (b .window)
+        → loaded (take (stored second b ring buffer .length) (stored second b ring buffer .buffer)) g ≡ record { verdict = accepted; book = anew b; ring = relaid b ring }
+    reload g h = rw image-length (load-of-store g h)
+
+    -- into a ring of another length: 11
+    pub load-other-ring : (g : List ℤ) → eqb (length g) (ringSize (b .regions) (b .services) (b .window)) ≡ false
+        → loaded (take (lengthOf second b) (stored second b ring buffer .buffer)) g ≡ record { verdict = refused 11; book = closed; ring = g }
+    load-other-ring g h =
+        let n = length buffer in
+        rw image-bytes
+        (other-ring (imageOf second b ring) g (load-back second b ring n t ok known (ringSize (b .regions) (b .services) (b .window)) refl .head) (rw (head-is second b ring n t ok known) h))
+
+    pub stored-loads-same : (g : List ℤ) → length g ≡ ringSize (b .regions) (b .services) (b .window)
+        → Same b ring (loaded (take (lengthOf second b) (stored second b ring buffer .buffer)) g .book) (loaded (take (lengthOf second b) (stored second b ring buffer .buffer)) g .ring)
+    stored-loads-same g h = rw (load-of-store g h) anew-same
 
 -- ---- 2. and 3., of bytes whose load into some ring is accepted
 module _ (bytes : List ℕ) (ring : List ℤ) (e : isAccepted (loaded bytes ring .verdict) ≡ true) where
@@ -123,10 +132,10 @@ module _ (bytes : List ℕ) (ring : List ℤ) (e : isAccepted (loaded bytes ring
 
   -- 2. an image that loads stores to the same bytes: into every buffer that is long enough, and the bytes after it stay
   pub store-of-load : ((i : ℕ) → getD bytes i 0 < 256) → (buffer : List ℕ) → length bytes ≤ length buffer
-      → stored (bookFrom bytes) (ringFrom bytes) buffer
+      → stored (isSecond bytes) (bookFrom bytes) (ringFrom bytes) buffer
       ≡ record { verdict = accepted; length = length bytes; book = bookFrom bytes; buffer = bytes ++ drop (length bytes) buffer }
   store-of-load small buffer h =
-      ok-stored (bookFrom bytes) (ringFrom bytes) buffer (store-from bytes (length ring) good (length buffer) h)
+      ok-stored (isSecond bytes) (bookFrom bytes) (ringFrom bytes) buffer (store-from bytes (length ring) good (length buffer) h)
       ∙ rw (length-from bytes (length ring) good)
       (λ i. record {
         verdict = accepted;
@@ -134,6 +143,14 @@ module _ (bytes : List ℕ) (ring : List ℤ) (e : isAccepted (loaded bytes ring
         book = bookFrom bytes;
         buffer = there bytes (length ring) good small i ++ drop (length bytes) buffer;
       })
+
+  -- a book loaded from kind 1 has no link, so that it "can be stored back to the very kind 1 image": 47 does not occur
+  pub loaded-first : isSecond bytes ≡ false → hasLink (bookFrom bytes) ≡ false
+  loaded-first k = rw (from-is bytes (length ring) good, k)
+
+  -- and kind 2 loads only where it is known
+  pub loaded-known : isSecond bytes ≡ true → linksKnown ≡ true
+  loaded-known = good .head .known
 
   -- 3. a book just loaded is accepted by rule 10, its ring has its length, it never meets 22, and its arrays have their lengths
   pub loaded-valid : valid (bookFrom bytes) ≡ true
@@ -166,9 +183,9 @@ module _ {a b : Book} {r s : List ℤ} (p : Same a r b s) where
     pub same-reports : (region market : ℕ) → reportOf a region market ≡ reportOf b region market
     same-reports = sameness.same-report p v w
 
-    pub same-stores : length r ≡ ringSize (a .regions) (a .services) (a .window) → length s ≡ ringSize (b .regions) (b .services) (b .window) → (buffer : List ℕ)
-        → stored b s buffer ≡ record { verdict = stored a r buffer .verdict; length = stored a r buffer .length; book = b; buffer = stored a r buffer .buffer }
-    same-stores = sameness.same-stored p v w
+    pub same-stores : length r ≡ ringSize (a .regions) (a .services) (a .window) → length s ≡ ringSize (b .regions) (b .services) (b .window) → (second : Bool) (buffer : List ℕ)
+        → stored second b s buffer ≡ record { verdict = stored second a r buffer .verdict; length = stored second a r buffer .length; book = b; buffer = stored second a r buffer .buffer }
+    same-stores x y second = sameness.same-stored second p v w x y
 
 -- ---- 5. the image check: "0 or the load's number, 11 left out"
 -- it is the load's number with every ring of the right length; with any ring the load's number is it or 11

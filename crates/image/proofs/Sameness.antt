@@ -1,7 +1,7 @@
 -- Same books: an equivalence, with the same reports and the same images. Assumes nothing.
 use mathlib.Core.Path.{_≡_, refl, sym, ap, ap₂, _∙_}
 use mathlib.Core.Bool.{Bool, true, false}
-use mathlib.Core.List.{List, _++_}
+use mathlib.Core.List.{List, [], _++_}
 use Prim.Native.Nat.{ℕ, _*_, _<_}
 use native.Mathlib.Omega.{arith}
 use lib.IntN.{ℤ}
@@ -12,12 +12,12 @@ use Rattle.laws.specs.Bytes.{encode, words}
 use Rattle.laws.proofs.Joined.{joined-same}
 use Rattle.pricing.specs.Verdict.{Verdict, accepted}
 use Rattle.book.specs.declared.record.Book.{Book}
-use Rattle.book.specs.Record.{marketsOf, ringSize, isAccepted}
+use Rattle.book.specs.Record.{marketsOf, ringSize, fromOf, toOf, isAccepted}
 use Rattle.book.specs.Validity.{valid}
 use Rattle.book_calls.specs.Report.{reportOf}
 use Rattle.head.specs.Counted.{marketCount, inOrder}
-use Rattle.head.specs.Layout.{widths, firsts, seconds, values, lengthOf, imageOf}
-use Rattle.image.specs.Storing.{pricesOk, storeVerdict, stored, Outcome}
+use Rattle.head.specs.Layout.{widths, firsts, seconds, values, kindOf, lengthOf, tailWidths, tail, imageOf}
+use Rattle.image.specs.Storing.{pricesOk, kindTells, storeVerdict, stored, Outcome}
 use Rattle.image.specs.Same.{Same}
 use Rattle.image.proofs.Prices.{prices-ok, ok-prices}
 
@@ -31,6 +31,8 @@ same-refl b ring v n = record {
   window = refl;
   halves = refl;
   parents = refl;
+  from = refl;
+  to = refl;
   threshold = refl;
   cap = refl;
   floor = refl;
@@ -57,6 +59,8 @@ module _ {a b : Book} {r s : List ℤ} (p : Same a r b s) where
     window = sym (p .window);
     halves = sym (p .halves);
     parents = sym (p .parents);
+    from = sym (p .from);
+    to = sym (p .to);
     threshold = sym (p .threshold);
     cap = sym (p .cap);
     floor = sym (p .floor);
@@ -79,6 +83,8 @@ module _ {a b : Book} {r s : List ℤ} (p : Same a r b s) where
     window = p .window ∙ k .window;
     halves = p .halves ∙ k .halves;
     parents = p .parents ∙ k .parents;
+    from = p .from ∙ k .from;
+    to = p .to ∙ k .to;
     threshold = p .threshold ∙ k .threshold;
     cap = p .cap ∙ k .cap;
     floor = p .floor ∙ k .floor;
@@ -145,7 +151,7 @@ handed-back true v n image buffer b c = refl
 handed-back false v n image buffer b c = refl
 
 -- of a book with two next places each, and two rings, from which the same prices are read
-module _ (b : Book) (nexts : List ℕ) (r s : List ℤ) (prices : (q : ℕ) → q < marketCount b → inOrder b r q ≡ inOrder (withNexts b nexts) s q) where
+module _ (second : Bool) (b : Book) (nexts : List ℕ) (r s : List ℤ) (prices : (q : ℕ) → q < marketCount b → inOrder b r q ≡ inOrder (withNexts b nexts) s q) where
   nexts-prices : pricesOk b r ≡ pricesOk (withNexts b nexts) s
   nexts-prices =
       both-ways (pricesOk b r) (pricesOk (withNexts b nexts) s)
@@ -158,31 +164,41 @@ module _ (b : Book) (nexts : List ℕ) (r s : List ℤ) (prices : (q : ℕ) → 
         summed = ap total (prices q h) ∙ m .summed;
       }))
 
-  nexts-image : imageOf b r ≡ imageOf (withNexts b nexts) s
+  -- the ends are no next places
+  nexts-tail : tail b ≡ tail (withNexts b nexts)
+  unfolding tail fromOf toOf
+  nexts-tail = refl
+
+  nexts-tells : kindTells second b ≡ kindTells second (withNexts b nexts)
+  unfolding fromOf
+  nexts-tells = refl
+
+  nexts-image : imageOf second b r ≡ imageOf second (withNexts b nexts) s
   unfolding imageOf values firsts seconds
   nexts-image =
-      ap (λ (zs : List ℤ). encode widths (values (lengthOf b) b) ++ words zs) (joined-same _ _ (marketCount b) 0 (λ q x y. prices q (omega arith)))
+      ap₂ (λ (vs : List ℕ) (zs : List ℤ). encode widths (values (lengthOf second b) (kindOf second) b) ++ (pick second (encode tailWidths vs) [] ++ words zs)) nexts-tail
+      (joined-same _ _ (marketCount b) 0 (λ q x y. prices q (omega arith)))
 
-  nexts-verdict : valid b ≡ true → valid (withNexts b nexts) ≡ true → length r ≡ length s → (room : ℕ) → storeVerdict b r room ≡ storeVerdict (withNexts b nexts) s room
+  nexts-verdict : valid b ≡ true → valid (withNexts b nexts) ≡ true → length r ≡ length s → (room : ℕ) → storeVerdict second b r room ≡ storeVerdict second (withNexts b nexts) s room
   unfolding storeVerdict
-  nexts-verdict v w e room = rw (v, w, e, nexts-prices)
+  nexts-verdict v w e room = rw (v, w, e, nexts-prices, nexts-tells)
 
   nexts-stored : valid b ≡ true → valid (withNexts b nexts) ≡ true → length r ≡ length s → (buffer : List ℕ)
-      → stored (withNexts b nexts) s buffer
-      ≡ record { verdict = stored b r buffer .verdict; length = stored b r buffer .length; book = withNexts b nexts; buffer = stored b r buffer .buffer }
+      → stored second (withNexts b nexts) s buffer
+      ≡ record { verdict = stored second b r buffer .verdict; length = stored second b r buffer .length; book = withNexts b nexts; buffer = stored second b r buffer .buffer }
   unfolding stored
   nexts-stored v w e buffer =
-      let t = storeVerdict b r (length buffer) in
-      let n = lengthOf b in
+      let t = storeVerdict second b r (length buffer) in
+      let n = lengthOf second b in
       rw (← nexts-verdict v w e (length buffer))
       (ap (λ (image : List ℕ). outcomeOf (isAccepted t) t n (image ++ drop n buffer) buffer (withNexts b nexts)) (sym nexts-image)
-      ∙ handed-back (isAccepted t) t n (imageOf b r ++ drop n buffer) buffer b (withNexts b nexts))
+      ∙ handed-back (isAccepted t) t n (imageOf second b r ++ drop n buffer) buffer b (withNexts b nexts))
 
-pub same-stored : {a b : Book} {r s : List ℤ} → Same a r b s → valid a ≡ true → valid b ≡ true
+pub same-stored : (second : Bool) {a b : Book} {r s : List ℤ} → Same a r b s → valid a ≡ true → valid b ≡ true
     → length r ≡ ringSize (a .regions) (a .services) (a .window) → length s ≡ ringSize (b .regions) (b .services) (b .window) → (buffer : List ℕ)
-    → stored b s buffer ≡ record { verdict = stored a r buffer .verdict; length = stored a r buffer .length; book = b; buffer = stored a r buffer .buffer }
-same-stored {a} {b} {r} {s} p v w x y buffer =
+    → stored second b s buffer ≡ record { verdict = stored second a r buffer .verdict; length = stored second a r buffer .length; book = b; buffer = stored second a r buffer .buffer }
+same-stored second {a} {b} {r} {s} p v w x y buffer =
     let sizes : ringSize (a .regions) (a .services) (a .window) ≡ ringSize (b .regions) (b .services) (b .window) = rw (p .regions, p .services, p .window) in
     let prices : (q : ℕ) → q < marketCount a → inOrder a r q ≡ inOrder (withNexts a (b .nexts)) s q = rw (same-book p) (p .prices) in
-    let e : stored (withNexts a (b .nexts)) s buffer ≡ record { verdict = stored a r buffer .verdict; length = stored a r buffer .length; book = withNexts a (b .nexts); buffer = stored a r buffer .buffer } = nexts-stored a (b .nexts) r s prices v (rw (same-book p) w) (x ∙ sizes ∙ sym y) buffer in
+    let e : stored second (withNexts a (b .nexts)) s buffer ≡ record { verdict = stored second a r buffer .verdict; length = stored second a r buffer .length; book = withNexts a (b .nexts); buffer = stored second a r buffer .buffer } = nexts-stored second a (b .nexts) r s prices v (rw (same-book p) w) (x ∙ sizes ∙ sym y) buffer in
     rw (same-book p) at e

@@ -1,27 +1,31 @@
 -- A book that rule 10 accepts and whose arrays have their lengths: its numbers fit the fields of a head. Assumes nothing.
 use mathlib.Core.Path.{_≡_, subst}
-use mathlib.Core.Bool.{true, _&&_}
+use mathlib.Core.Bool.{Bool, true, false, not, _&&_}
 use mathlib.Core.List.{List}
-use mathlib.Core.Logic.{inl, inr, ⊎-elim}
+use mathlib.Core.Logic.{_⊎_, inl, inr, ⊎-elim}
 use Prim.Native.Nat.{ℕ, _+_, _*_, _/_, _%_, _^_, _<_, _≤_}
 use native.Mathlib.Nat.{mul-le-mul}
 use native.Mathlib.Omega.{arith}
 use lib.IntN.{ℤ, pos, negsuc}
 use lib.ListN.{length, getD, replicate, List·getD-eq-default}
 use lib.Signed.{leZ}
+use lib.Dec.{eqb, ltb}
+use borrow.Author.Tests.{eqb-true, ltb-true}
 use mir.Syntax.{w32, w64}
 use mir.Val.{SFits}
 use mir.Facts.{fits-ofZ}
-use Rattle.laws.proofs.Tests.{and-left, and-right, lt-or-ge}
+use Rattle.laws.proofs.Tests.{and-left, and-right, lt-or-ge, by-test}
 use Rattle.laws.proofs.Integers.{test-le, in-range}
 use Rattle.laws.proofs.Fields.{Fit, none, more, fit-append, fit-row}
 use Rattle.laws.specs.Lists.{sumFrom}
 use Rattle.laws.proofs.Joined.{sum-most}
 use Rattle.pricing.specs.Holding.{limitsOk}
 use Rattle.book.specs.declared.record.Book.{Book}
-use Rattle.book.specs.Validity.{thresholdOk}
+use Rattle.book.specs.Record.{fromOf, toOf}
+use Rattle.book.specs.Validity.{thresholdOk, endsOk}
 use Rattle.book.proofs.Validities.{Valid}
-use Rattle.head.specs.Layout.{widths, firsts, seconds, values, lengthOf}
+use Rattle.head.specs.Layout.{widths, firsts, seconds, values, kindOf, lengthOf, tailWidths, tail}
+use Rattle.head.proofs.Tails.{head-within}
 
 -- what a book's type says and rule 10 does not: the lengths of the arrays that an image holds
 pub record Typed (b : Book) : Type 0 where
@@ -47,6 +51,24 @@ limits-fit cap floor e =
       in-range w32 floor (omega (arith, test-le (negsuc 9999999) floor (and-right (a && b) c abc), test-le floor (negsuc 0) (and-right (a && b && c) d e))),
     )
 
+-- the number of a kind
+kind-most : (second : Bool) → kindOf second ≤ 2
+kind-most true = omega arith
+kind-most false = omega arith
+
+-- an end is a region or 255
+pub ends-are : (R : ℕ) (parents : List ℕ) (from to : ℕ) → endsOk R parents from to ≡ true → ((from ≡ 255) × (to ≡ 255)) ⊎ ((from < R) × (to < R))
+ends-are R parents from to e =
+    by-test (eqb from 255 && eqb to 255)
+    (λ t. inl (eqb-true from 255 (and-left (eqb from 255) (eqb to 255) t), eqb-true to 255 (and-right (eqb from 255) (eqb to 255) t)))
+    (λ t. let q = rw t at e in
+    let a = and-left (ltb from R && ltb to R && not (eqb from to)) (not (eqb (getD parents from 255) to)) (and-left (ltb from R && ltb to R && not (eqb from to) && not (eqb (getD parents from 255) to)) (not (eqb (getD parents to 255) from)) q) in
+    let c = and-left (ltb from R && ltb to R) (not (eqb from to)) a in
+    inr (ltb-true from R (and-left (ltb from R) (ltb to R) c), ltb-true to R (and-right (ltb from R) (ltb to R) c)))
+
+ends-fit : (R : ℕ) (parents : List ℕ) (from to : ℕ) → R ≤ 8 → endsOk R parents from to ≡ true → (from < 256) × (to < 256)
+ends-fit R parents from to h e = ⊎-elim (λ q. (omega (arith, q .0), omega (arith, q .1))) (λ q. (omega (arith, q .0), omega (arith, q .1))) (ends-are R parents from to e)
+
 -- ---- the whole head
 module _ (b : Book) (v : Valid b) (t : Typed b) where
   -- an element of an array, and zero past its end
@@ -70,18 +92,31 @@ module _ (b : Book) (v : Valid b) (t : Typed b) where
       (λ r. omega (arith, v .no-mark k h (inl r)))
       (lt-or-ge (k / 11) (b .regions)))
 
-  length-fits : lengthOf b < 256 ^ 4
-  length-fits =
+  length-fits : (second : Bool) → lengthOf second b < 256 ^ 4
+  length-fits second =
       let s : sumFrom 8 0 (λ r. getD (b .counts) r 0) ≤ 8 * 2016 = sum-most 8 0 2016 (λ r. getD (b .counts) r 0) (λ j h. count-most (0 + j) (omega arith)) in
       let m : b .services + 1 ≤ 11 = omega (arith, v .services) in
-      omega (arith, mul-le-mul m s)
+      omega (arith, mul-le-mul m s, head-within second)
 
-  pub fit-of : Fit widths (values (lengthOf b) b)
+  -- no region is 255 or more, so that an end fits a byte
+  end-fits : (fromOf b < 256) × (toOf b < 256)
+  end-fits = ends-fit (b .regions) (b .parents) (fromOf b) (toOf b) (omega (arith, v .regions)) (v .ends)
+
+  pub tail-fits : Fit tailWidths (tail b)
+  unfolding tailWidths tail
+  tail-fits =
+      let a : fromOf b < 256 ^ 1 = omega (arith, end-fits .0) in
+      let c : toOf b < 256 ^ 1 = omega (arith, end-fits .1) in
+      let z : 0 < 256 ^ 2 = omega arith in
+      let f : 4294967295 < 256 ^ 4 = omega arith in
+      more a (more c (more z (more f none)))
+
+  pub fit-of : (second : Bool) → Fit widths (values (lengthOf second b) (kindOf second) b)
   unfolding widths values firsts seconds
-  fit-of =
+  fit-of second =
       let l = limits-fit (b .cap) (b .floor) (v .limits) in
       fit-append
-      (more length-fits (more (omega arith) (more (omega (arith, v .regions)) (more (omega (arith, v .services)) (more (omega (arith, v .window)) (more (omega (arith, v .halves)) (more (omega arith) none)))))))
+      (more (length-fits second) (more (omega (arith, kind-most second)) (more (omega (arith, v .regions)) (more (omega (arith, v .services)) (more (omega (arith, v .window)) (more (omega (arith, v .halves)) (more (omega arith) none)))))))
       (fit-append (subst (λ (k : ℕ). Fit (replicate k 1) (b .parents)) (t .parents) (fit-row 1 (b .parents) (λ i. omega (arith, parent-fits i))))
       (fit-append
       (more (omega (arith, v .entries)) (more (omega (arith, v .position, v .halves)) (more (omega arith)

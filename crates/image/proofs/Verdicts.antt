@@ -1,6 +1,6 @@
 -- What it is that an image's head, a load and a store are accepted: each verdict is an acceptance exactly where its record holds. Assumes nothing.
-use mathlib.Core.Path.{_≡_, refl}
-use mathlib.Core.Bool.{Bool, true, false, _&&_, not}
+use mathlib.Core.Path.{_≡_, refl, sym, ap, _∙_}
+use mathlib.Core.Bool.{Bool, true, false, _&&_, _||_, not}
 use mathlib.Core.List.{List, _++_}
 use Prim.Native.Nat.{ℕ, _≤_}
 use native.Mathlib.Omega.{arith}
@@ -14,56 +14,132 @@ use Rattle.laws.proofs.Tests.{and-left, and-right, by-test, never}
 use Rattle.book.proofs.Passes.{passes, passes-not}
 use Rattle.pricing.specs.Verdict.{Verdict, accepted, refused, refusedAt}
 use Rattle.book.specs.declared.record.Book.{Book}
-use Rattle.book.specs.Record.{closed, ringSize, isAccepted}
+use Rattle.book.specs.Record.{closed, ringSize, fromOf, toOf, linksKnown, isAccepted}
 use Rattle.book.specs.Validity.{valid}
 use Rattle.book.proofs.Validities.{Valid, valid-is, is-valid}
 use Rattle.head.specs.Counted.{howMany}
-use Rattle.head.specs.Layout.{headSize, lengthOf, headFrom, imageOf}
-use Rattle.image.specs.Storing.{pricesOk, storeVerdict, stored}
-use Rattle.image.specs.Loading.{zerosOk, headVerdict, firstBad, ringOf, loadVerdict, bookFrom, ringFrom, loaded}
+use Rattle.head.specs.Layout.{kindOf, headSize, lengthOf, isSecond, fromIn, toIn, headFrom, imageOf}
+use Rattle.head.proofs.Tails.{head-within}
+use Rattle.image.specs.Storing.{pricesOk, kindTells, storeVerdict, stored}
+use Rattle.image.specs.Loading.{lacksTail, kindOk, tailOk, zerosOk, endsSaid, fieldsOk, headVerdict, firstBad, ringOf, loadVerdict, bookFrom, ringFrom, loaded}
 
 -- ---- the head of an image
 pub record HeadOk (l : List ℕ) : Type 0 where
-  pub long : headSize ≤ length l
+  pub long : headSize (isSecond l) ≤ length l
   pub size : numberAt l 0 4 ≡ length l
-  pub kind : numberAt l 4 2 ≡ 1
+  pub kind : numberAt l 4 2 ≡ kindOf (isSecond l)
+  pub known : isSecond l ≡ true → linksKnown ≡ true
   pub zero : numberAt l 11 1 ≡ 0
   pub zeros : numberAt l 26 2 ≡ 0
+  -- of kind 2
+  pub tail : isSecond l ≡ true → (numberAt l 150 2 ≡ 0) × (numberAt l 152 4 ≡ 4294967295)
+  pub from : fromIn l ≡ fromOf (headFrom l)
+  pub to : toIn l ≡ toOf (headFrom l)
   pub book : Valid (headFrom l)
-  pub sized : length l ≡ lengthOf (headFrom l)
+  pub sized : length l ≡ lengthOf (isSecond l) (headFrom l)
+
+-- a kind is 1, or 2 where that is known
+kind-is : (k : ℕ) (x : Bool) → (eqb k 1 || x && eqb k 2) ≡ true → (k ≡ kindOf (eqb k 2)) × (eqb k 2 ≡ true → x ≡ true)
+kind-is k x e = (by-test (eqb k 2) (λ t. rw t (eqb-true k 2 t)) (λ t. rw t (eqb-true k 1 (no-other (eqb k 1) x (rw t at e)))), λ t. let q : k ≡ 2 = eqb-true k 2 t in only x (rw q at e))
+  where
+    no-other : (a y : Bool) → (a || y && false) ≡ true → a ≡ true
+    no-other true y q = refl
+    no-other false true q = q
+    no-other false false q = q
+
+    only : (y : Bool) → (eqb 2 1 || y && eqb 2 2) ≡ true → y ≡ true
+    only true q = refl
+    only false q = q
+
+is-kind : (k : ℕ) (x : Bool) → k ≡ kindOf (eqb k 2) → (eqb k 2 ≡ true → x ≡ true) → (eqb k 1 || x && eqb k 2) ≡ true
+is-kind k x e h = by-test (eqb k 2) (λ t. rw (t, h t) (or-true (eqb k 1))) (λ t. let q : k ≡ 1 = rw t at e in rw (t, eq-eqb k 1 q))
+  where
+    or-true : (a : Bool) → (a || true) ≡ true
+    or-true true = refl
+    or-true false = refl
+
+-- of kind 2 there is room for the tail
+long-is : (n : ℕ) (s x : Bool) → 148 ≤ n → (x && ltb n (headSize s)) ≡ false → (s ≡ true → x ≡ true) → headSize s ≤ n
+long-is n true x h e k = let t : x ≡ true = k refl in ltb-false n 156 (rw t at e)
+long-is n false x h e k = h
+
+is-long : (n : ℕ) (s x : Bool) → headSize s ≤ n → (x && ltb n (headSize s)) ≡ false
+is-long n s true h = le-ltb n (headSize s) h
+is-long n s false h = refl
+
+is-tail : (l : List ℕ) → (isSecond l ≡ true → (numberAt l 150 2 ≡ 0) × (numberAt l 152 4 ≡ 4294967295)) → tailOk l ≡ true
+is-tail l h = by-test (isSecond l) (λ t. rw (t, eq-eqb _ _ (h t .0), eq-eqb _ _ (h t .1))) (λ t. rw t)
+
+-- the verdict on a head, of its six tests
+abbrev pub heads : Bool → Bool → Bool → Bool → Bool → Bool → Verdict
+heads short size lacks kind fields total =
+    pick short (refused 24)
+    (pick (not size) (refused 24)
+    (pick lacks (refused 24)
+    (pick (not kind) (refused 25)
+    (pick (not fields) (refused 26)
+    (pick (not total) (refused 27)
+    accepted)))))
 
 module _ (l : List ℕ) where
-  pub head-ok : isAccepted (headVerdict l) ≡ true → HeadOk l
+  pub head-tests : heads (ltb (length l) 148) (eqb (numberAt l 0 4) (length l)) (lacksTail l) (kindOk l) (fieldsOk l) (eqb (length l) (lengthOf (isSecond l) (headFrom l))) ≡ headVerdict l
   unfolding headVerdict
+  head-tests = refl
+
+  -- before the kind's tail is looked at
+  pub second-long : 148 ≤ length l → lacksTail l ≡ false → kindOk l ≡ true → isSecond l ≡ true → 156 ≤ length l
+  second-long h e k t = let m : headSize (isSecond l) ≤ length l = long-is (length l) (isSecond l) linksKnown h e (kind-is (numberAt l 4 2) linksKnown k .1) in rw t at m
+
+  pub head-ok : isAccepted (headVerdict l) ≡ true → HeadOk l
   head-ok e =
-      let a = passes (ltb (length l) headSize) (refused 24) _ refl e in
+      let a = passes (ltb (length l) 148) (refused 24) _ refl (ap isAccepted head-tests ∙ e) in
       let b = passes-not (eqb (numberAt l 0 4) (length l)) (refused 24) _ refl (a .1) in
-      let c = passes-not (eqb (numberAt l 4 2) 1) (refused 25) _ refl (b .1) in
-      let d = passes-not (zerosOk l && valid (headFrom l)) (refused 26) _ refl (c .1) in
-      let f = passes-not (eqb (length l) (lengthOf (headFrom l))) (refused 27) _ refl (d .1) in
-      let z = and-left (zerosOk l) (valid (headFrom l)) (d .0) in
+      let s = passes (lacksTail l) (refused 24) _ refl (b .1) in
+      let c = passes-not (kindOk l) (refused 25) _ refl (s .1) in
+      let d = passes-not (fieldsOk l) (refused 26) _ refl (c .1) in
+      let f = passes-not (eqb (length l) (lengthOf (isSecond l) (headFrom l))) (refused 27) _ refl (d .1) in
+      let k = kind-is (numberAt l 4 2) linksKnown (c .0) in
+      let w = and-left (zerosOk l && endsSaid l) (valid (headFrom l)) (d .0) in
+      let z = and-left (zerosOk l) (endsSaid l) w in
+      let u = and-right (zerosOk l) (endsSaid l) w in
+      let y = and-left (eqb (numberAt l 11 1) 0 && eqb (numberAt l 26 2) 0) (tailOk l) z in
       record {
-        long = ltb-false (length l) headSize (a .0);
+        long = long-is (length l) (isSecond l) linksKnown (ltb-false (length l) 148 (a .0)) (s .0) (k .1);
         size = eqb-true (numberAt l 0 4) (length l) (b .0);
-        kind = eqb-true (numberAt l 4 2) 1 (c .0);
-        zero = eqb-true (numberAt l 11 1) 0 (and-left (eqb (numberAt l 11 1) 0) (eqb (numberAt l 26 2) 0) z);
-        zeros = eqb-true (numberAt l 26 2) 0 (and-right (eqb (numberAt l 11 1) 0) (eqb (numberAt l 26 2) 0) z);
-        book = valid-is (headFrom l) (and-right (zerosOk l) (valid (headFrom l)) (d .0));
-        sized = eqb-true (length l) (lengthOf (headFrom l)) (f .0);
+        kind = k .0;
+        known = k .1;
+        zero = eqb-true (numberAt l 11 1) 0 (and-left (eqb (numberAt l 11 1) 0) (eqb (numberAt l 26 2) 0) y);
+        zeros = eqb-true (numberAt l 26 2) 0 (and-right (eqb (numberAt l 11 1) 0) (eqb (numberAt l 26 2) 0) y);
+        tail = λ t. let q = rw t at (and-right (eqb (numberAt l 11 1) 0 && eqb (numberAt l 26 2) 0) (tailOk l) z) in
+            (eqb-true _ _ (and-left (eqb (numberAt l 150 2) 0) (eqb (numberAt l 152 4) 4294967295) q), eqb-true _ _ (and-right (eqb (numberAt l 150 2) 0) (eqb (numberAt l 152 4) 4294967295) q));
+        from = eqb-true (fromIn l) (fromOf (headFrom l)) (and-left (eqb (fromIn l) (fromOf (headFrom l))) (eqb (toIn l) (toOf (headFrom l))) u);
+        to = eqb-true (toIn l) (toOf (headFrom l)) (and-right (eqb (fromIn l) (fromOf (headFrom l))) (eqb (toIn l) (toOf (headFrom l))) u);
+        book = valid-is (headFrom l) (and-right (zerosOk l && endsSaid l) (valid (headFrom l)) (d .0));
+        sized = eqb-true (length l) (lengthOf (isSecond l) (headFrom l)) (f .0);
       }
 
-  pub ok-head : HeadOk l → headVerdict l ≡ accepted
-  unfolding headVerdict
-  ok-head h =
+  fields-are : HeadOk l → fieldsOk l ≡ true
+  fields-are h =
       rw (
-        le-ltb (length l) headSize (h .long),
-        eq-eqb (numberAt l 0 4) (length l) (h .size),
-        eq-eqb (numberAt l 4 2) 1 (h .kind),
         eq-eqb (numberAt l 11 1) 0 (h .zero),
         eq-eqb (numberAt l 26 2) 0 (h .zeros),
+        is-tail l (h .tail),
+        eq-eqb (fromIn l) (fromOf (headFrom l)) (h .from),
+        eq-eqb (toIn l) (toOf (headFrom l)) (h .to),
         is-valid (headFrom l) (h .book),
-        eq-eqb (length l) (lengthOf (headFrom l)) (h .sized),
       )
+
+  pub ok-head : HeadOk l → headVerdict l ≡ accepted
+  ok-head h =
+      sym head-tests
+      ∙ rw (
+        le-ltb (length l) 148 (omega (arith, h .long, head-within (isSecond l))),
+        eq-eqb (numberAt l 0 4) (length l) (h .size),
+        is-long (length l) (isSecond l) linksKnown (h .long),
+        is-kind (numberAt l 4 2) linksKnown (h .kind) (h .known),
+        fields-are h,
+        eq-eqb (length l) (lengthOf (isSecond l) (headFrom l)) (h .sized),
+      ) refl
 
 -- ---- a load into a ring of n places
 pub record LoadOk (l : List ℕ) (n : ℕ) : Type 0 where
@@ -100,38 +176,57 @@ module _ (l : List ℕ) (ring : List ℤ) where
   other-ring h e = rw (ok-head l h, e)
 
 -- ---- a store into a buffer of n bytes
-pub record StoreOk (b : Book) (ring : List ℤ) (n : ℕ) : Type 0 where
+pub record StoreOk (second : Bool) (b : Book) (ring : List ℤ) (n : ℕ) : Type 0 where
   pub book : Valid b
   pub ring-size : length ring ≡ ringSize (b .regions) (b .services) (b .window)
   pub prices : pricesOk b ring ≡ true
-  pub room : lengthOf b ≤ n
+  pub tells : kindTells second b ≡ true
+  pub room : lengthOf second b ≤ n
 
-module _ (b : Book) (ring : List ℤ) (n : ℕ) where
-  pub store-ok : isAccepted (storeVerdict b ring n) ≡ true → StoreOk b ring n
+-- the verdict on a store, of its five tests
+abbrev pub stores : Bool → Bool → Bool → Bool → Bool → Verdict
+stores book ring prices tells short =
+    pick (not book) (refused 10)
+    (pick (not ring) (refused 11)
+    (pick (not prices) (refused 22)
+    (pick (not tells) (refused 47)
+    (pick short (refused 23)
+    accepted))))
+
+module _ (second : Bool) (b : Book) (ring : List ℤ) (n : ℕ) where
+  abbrev size : ℕ
+  size = ringSize (b .regions) (b .services) (b .window)
+
+  pub store-tests : stores (valid b) (eqb (length ring) size) (pricesOk b ring) (kindTells second b) (ltb n (lengthOf second b)) ≡ storeVerdict second b ring n
   unfolding storeVerdict
+  store-tests = refl
+
+  pub store-ok : isAccepted (storeVerdict second b ring n) ≡ true → StoreOk second b ring n
   store-ok e =
-      let p = passes-not (valid b) (refused 10) _ refl e in
-      let q = passes-not (eqb (length ring) (ringSize (b .regions) (b .services) (b .window))) (refused 11) _ refl (p .1) in
+      let p = passes-not (valid b) (refused 10) _ refl (ap isAccepted store-tests ∙ e) in
+      let q = passes-not (eqb (length ring) size) (refused 11) _ refl (p .1) in
       let r = passes-not (pricesOk b ring) (refused 22) _ refl (q .1) in
-      let s = passes (ltb n (lengthOf b)) (refused 23) _ refl (r .1) in
+      let t = passes-not (kindTells second b) (refused 47) _ refl (r .1) in
+      let s = passes (ltb n (lengthOf second b)) (refused 23) _ refl (t .1) in
       record {
         book = valid-is b (p .0);
-        ring-size = eqb-true (length ring) (ringSize (b .regions) (b .services) (b .window)) (q .0);
+        ring-size = eqb-true (length ring) size (q .0);
         prices = r .0;
-        room = ltb-false n (lengthOf b) (s .0);
+        tells = t .0;
+        room = ltb-false n (lengthOf second b) (s .0);
       }
 
-  pub ok-store : StoreOk b ring n → storeVerdict b ring n ≡ accepted
-  unfolding storeVerdict
+  pub ok-store : StoreOk second b ring n → storeVerdict second b ring n ≡ accepted
   ok-store h =
-      rw (is-valid b (h .book), eq-eqb (length ring) (ringSize (b .regions) (b .services) (b .window)) (h .ring-size), h .prices, le-ltb n (lengthOf b) (h .room))
+      sym store-tests
+      ∙ rw (is-valid b (h .book), eq-eqb (length ring) size (h .ring-size), h .prices, h .tells, le-ltb n (lengthOf second b) (h .room)) refl
 
-module _ (b : Book) (ring : List ℤ) (buffer : List ℕ) where
-  pub stored-ok : isAccepted (stored b ring buffer .verdict) ≡ true → StoreOk b ring (length buffer)
+module _ (second : Bool) (b : Book) (ring : List ℤ) (buffer : List ℕ) where
+  pub stored-ok : isAccepted (stored second b ring buffer .verdict) ≡ true → StoreOk second b ring (length buffer)
   unfolding stored
-  stored-ok e = by-test (isAccepted (storeVerdict b ring (length buffer))) (λ h. store-ok b ring (length buffer) h) (λ h. never _ (rw h at e) h)
+  stored-ok e = by-test (isAccepted (storeVerdict second b ring (length buffer))) (λ h. store-ok second b ring (length buffer) h) (λ h. never _ (rw h at e) h)
 
-  pub ok-stored : StoreOk b ring (length buffer)
-      → stored b ring buffer ≡ record { verdict = accepted; length = lengthOf b; book = b; buffer = imageOf b ring ++ drop (lengthOf b) buffer }
+  pub ok-stored : StoreOk second b ring (length buffer)
+      → stored second b ring buffer ≡ record { verdict = accepted; length = lengthOf second b; book = b; buffer = imageOf second b ring ++ drop (lengthOf second b) buffer }
   unfolding stored
-  ok-stored h = rw (ok-store b ring (length buffer) h)
+  ok-stored h = rw (ok-store second b ring (length buffer) h)

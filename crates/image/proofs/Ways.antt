@@ -1,14 +1,14 @@
 -- The outcome of a store, a load and the image check, by the way that each takes: what its definition comes to where its tests
 -- are decided. Assumes nothing.
-use mathlib.Core.Path.{_≡_, sym, ap, _∙_}
-use mathlib.Core.Bool.{true, false, _&&_}
-use mathlib.Core.List.{List, _++_}
+use mathlib.Core.Path.{_≡_, refl, sym, ap, _∙_}
+use mathlib.Core.Bool.{Bool, true, false}
+use mathlib.Core.List.{List, _++_, append-assoc}
 use Prim.Native.Nat.{ℕ, _+_, _*_, _≤_, _<_}
 use native.Mathlib.Omega.{arith}
 use borrow.Author.Tests.{lt-ltb, le-ltb, eq-eqb, ne-eqb}
 use lib.Dec.{eqb}
 use lib.IntN.{ℤ, pos}
-use lib.ListN.{length, drop, replicate}
+use lib.ListN.{length, drop, replicate, length-append}
 use lib.Seq.{sets}
 use Rattle.laws.specs.Bytes.{numberAt, encode, words}
 use Rattle.laws.proofs.Bytes.{sets-append, sets-front}
@@ -23,43 +23,42 @@ use Rattle.book.proofs.Validities.{Valid, valid-is, is-valid}
 use Rattle.book.proofs.Ways.{is-accepted, is-refused}
 use Rattle.image.specs.declared.storing.Image.the-variants as image
 use Rattle.head.specs.Counted.{marketCount, counted, howMany}
-use Rattle.head.specs.Layout.{widths, headSize, lengthOf, values, imageOf, bookOf, headFrom}
-use Rattle.image.specs.Storing.{pricesOk, storeVerdict, stored}
+use Rattle.head.specs.Layout.{widths, kindOf, headSize, lengthOf, values, tailOf, frontOf, imageOf, isSecond, bookOf, headFrom}
+use Rattle.head.proofs.Tails.{head-within}
+use Rattle.image.specs.Storing.{pricesOk, kindTells, storeVerdict, stored}
 use Rattle.image.specs.Storing as store
-use Rattle.image.specs.Loading.{zerosOk, headVerdict, badFrom, firstBad, ringOf, loadVerdict, checked, windowsFrom, sumsFrom, bookFrom, ringFrom, loaded}
+use Rattle.image.specs.Loading.{lacksTail, kindOk, fieldsOk, headVerdict, badFrom, firstBad, ringOf, loadVerdict, checked, windowsFrom, sumsFrom, bookFrom, ringFrom, loaded}
 use Rattle.image.specs.Loading as load
-use Rattle.image.proofs.Lengths.{length-image}
-use Rattle.image.proofs.Verdicts.{head-ok, LoadOk, load-ok, ok-load, ok-loaded, StoreOk, store-ok, ok-store, ok-stored}
+use Rattle.image.proofs.Lengths.{front-length, length-image}
+use Rattle.image.proofs.Verdicts.{head-tests, head-ok, LoadOk, load-ok, ok-load, ok-loaded, StoreOk, store-tests, store-ok, ok-stored}
 
 -- ---- the head of an image
 module _ (l : List ℕ) where
-  pub head-short : length l < headSize → refused 24 ≡ headVerdict l
-  unfolding headVerdict
-  head-short a = rw (lt-ltb (length l) headSize a)
+  pub head-short : length l < 148 → refused 24 ≡ headVerdict l
+  head-short a = (rw (lt-ltb (length l) 148 a) refl) ∙ head-tests l
 
-  module _ (a : headSize ≤ length l) where
+  module _ (a : 148 ≤ length l) where
     pub head-24 : (numberAt l 0 4 ≡ length l → ⊥) → refused 24 ≡ headVerdict l
-    unfolding headVerdict
-    head-24 b = rw (le-ltb (length l) headSize a, ne-eqb (numberAt l 0 4) (length l) b)
+    head-24 b = (rw (le-ltb (length l) 148 a, ne-eqb (numberAt l 0 4) (length l) b) refl) ∙ head-tests l
 
     module _ (b : numberAt l 0 4 ≡ length l) where
-      pub head-25 : (numberAt l 4 2 ≡ 1 → ⊥) → refused 25 ≡ headVerdict l
-      unfolding headVerdict
-      head-25 c = rw (le-ltb (length l) headSize a, eq-eqb (numberAt l 0 4) (length l) b, ne-eqb (numberAt l 4 2) 1 c)
+      pub head-second : lacksTail l ≡ true → refused 24 ≡ headVerdict l
+      head-second s = (rw (le-ltb (length l) 148 a, eq-eqb (numberAt l 0 4) (length l) b, s) refl) ∙ head-tests l
 
-      module _ (c : numberAt l 4 2 ≡ 1) where
-        pub head-26 : (zerosOk l && valid (headFrom l)) ≡ false → refused 26 ≡ headVerdict l
-        unfolding headVerdict
-        head-26 d = rw (le-ltb (length l) headSize a, eq-eqb (numberAt l 0 4) (length l) b, eq-eqb (numberAt l 4 2) 1 c, d)
+      module _ (s : lacksTail l ≡ false) where
+        pub head-25 : kindOk l ≡ false → refused 25 ≡ headVerdict l
+        head-25 c = (rw (le-ltb (length l) 148 a, eq-eqb (numberAt l 0 4) (length l) b, s, c) refl) ∙ head-tests l
 
-        module _ (d : (zerosOk l && valid (headFrom l)) ≡ true) where
-          pub head-27 : (length l ≡ lengthOf (headFrom l) → ⊥) → refused 27 ≡ headVerdict l
-          unfolding headVerdict
-          head-27 e = rw (le-ltb (length l) headSize a, eq-eqb (numberAt l 0 4) (length l) b, eq-eqb (numberAt l 4 2) 1 c, d, ne-eqb (length l) (lengthOf (headFrom l)) e)
+        module _ (c : kindOk l ≡ true) where
+          pub head-26 : fieldsOk l ≡ false → refused 26 ≡ headVerdict l
+          head-26 d = (rw (le-ltb (length l) 148 a, eq-eqb (numberAt l 0 4) (length l) b, s, c, d) refl) ∙ head-tests l
 
-          pub head-0 : length l ≡ lengthOf (headFrom l) → accepted ≡ headVerdict l
-          unfolding headVerdict
-          head-0 e = rw (le-ltb (length l) headSize a, eq-eqb (numberAt l 0 4) (length l) b, eq-eqb (numberAt l 4 2) 1 c, d, eq-eqb (length l) (lengthOf (headFrom l)) e)
+          module _ (d : fieldsOk l ≡ true) where
+            pub head-27 : (length l ≡ lengthOf (isSecond l) (headFrom l) → ⊥) → refused 27 ≡ headVerdict l
+            head-27 e = (rw (le-ltb (length l) 148 a, eq-eqb (numberAt l 0 4) (length l) b, s, c, d, ne-eqb (length l) (lengthOf (isSecond l) (headFrom l)) e) refl) ∙ head-tests l
+
+            pub head-0 : length l ≡ lengthOf (isSecond l) (headFrom l) → accepted ≡ headVerdict l
+            head-0 e = (rw (le-ltb (length l) 148 a, eq-eqb (numberAt l 0 4) (length l) b, s, c, d, eq-eqb (length l) (lengthOf (isSecond l) (headFrom l)) e) refl) ∙ head-tests l
 
 -- ---- a load into a ring of n places
 module _ (l : List ℕ) (n : ℕ) where
@@ -73,12 +72,12 @@ module _ (l : List ℕ) (n : ℕ) where
     unfolding loadVerdict
     load-11 q = rw (a, ne-eqb n (ringOf (headFrom l)) (λ r. q (r ∙ sym (ap ringOf e))))
 
-    module _ (q : n ≡ ringOf b) (bad : ℕ) (f : bad ≡ badFrom b l headSize (marketCount b) 0 0) where
+    module _ (q : n ≡ ringOf b) (at bad : ℕ) (p : at ≡ headSize (isSecond l)) (f : bad ≡ badFrom b l at (marketCount b) 0 0) where
       sized : eqb n (ringOf (headFrom l)) ≡ true
       sized = eq-eqb n (ringOf (headFrom l)) (q ∙ ap ringOf e)
 
       bad-is : bad ≡ firstBad l
-      bad-is = rw e at f
+      bad-is = rw (e, p) at f
 
       pub load-16 : bad < howMany b → refusedAt 16 bad ≡ loadVerdict l n
       unfolding loadVerdict
@@ -88,9 +87,13 @@ module _ (l : List ℕ) (n : ℕ) where
       load-0 t =
           sym (ok-load l n (record { head = head-ok l (ap isAccepted a); ring = q ∙ ap ringOf e; good = omega (arith, bad-is, ap howMany e) }))
 
+-- a good head is long enough to be read
+pub head-long : (l : List ℕ) → headVerdict l ≡ accepted → 148 ≤ length l
+head-long l a = omega (arith, head-ok l (ap isAccepted a) .long, head-within (isSecond l))
+
 -- what a good head says of its book, for the walk over the image's prices
-pub head-ready : (l : List ℕ) → headVerdict l ≡ accepted → (b : Book) → b ≡ headFrom l → (valid b ≡ true) × (headSize + 4 * howMany b ≤ length l)
-head-ready l a b e =
+pub head-ready : (l : List ℕ) → headVerdict l ≡ accepted → (b : Book) → b ≡ headFrom l → (at : ℕ) → at ≡ headSize (isSecond l) → (valid b ≡ true) × (at + 4 * howMany b ≤ length l)
+head-ready l a b e at p =
     let h = head-ok l (ap isAccepted a) in
     (ap valid e ∙ is-valid (headFrom l) (h .book), omega (arith, h .sized, ap howMany e))
 
@@ -100,14 +103,14 @@ module _ (l : List ℕ) where
   unfolding checked
   check-head a = ap (λ (v : Verdict). v .number) (load-head l (ringOf (headFrom l)) a)
 
-  module _ (a : headVerdict l ≡ accepted) (b : Book) (e : b ≡ headFrom l) (bad : ℕ) (f : bad ≡ badFrom b l headSize (marketCount b) 0 0) where
+  module _ (a : headVerdict l ≡ accepted) (b : Book) (e : b ≡ headFrom l) (at bad : ℕ) (p : at ≡ headSize (isSecond l)) (f : bad ≡ badFrom b l at (marketCount b) 0 0) where
     pub check-16 : bad < howMany b → 16 ≡ checked l
     unfolding checked
-    check-16 c = ap (λ (v : Verdict). v .number) (load-16 l (ringOf (headFrom l)) a b e (sym (ap ringOf e)) bad f c)
+    check-16 c = ap (λ (v : Verdict). v .number) (load-16 l (ringOf (headFrom l)) a b e (sym (ap ringOf e)) at bad p f c)
 
     pub check-0 : howMany b ≤ bad → 0 ≡ checked l
     unfolding checked
-    check-0 c = ap (λ (v : Verdict). v .number) (load-0 l (ringOf (headFrom l)) a b e (sym (ap ringOf e)) bad f c)
+    check-0 c = ap (λ (v : Verdict). v .number) (load-0 l (ringOf (headFrom l)) a b e (sym (ap ringOf e)) at bad p f c)
 
 -- ---- the outcome of a load
 module _ (l : List ℕ) (g : List ℤ) (a : Answer) (h : verdict a ≡ loadVerdict l (length g)) where
@@ -118,8 +121,8 @@ module _ (l : List ℕ) (g : List ℤ) (a : Answer) (h : verdict a ≡ loadVerdi
   pub load-is : a ≡ Accepted → LoadOk l (length g)
   load-is e = load-ok l (length g) (ap isAccepted (is-accepted a (loadVerdict l (length g)) h e))
 
-  pub loaded-accepted : a ≡ Accepted → (b : Book) (s g′ : List ℤ) → b ≡ headFrom l
-      → s ≡ sumsFrom b l (marketCount b) 0 headSize (replicate 88 (pos 0)) → g′ ≡ windowsFrom b l (marketCount b) 0 headSize
+  pub loaded-accepted : a ≡ Accepted → (b : Book) (s g′ : List ℤ) (at : ℕ) → b ≡ headFrom l → at ≡ headSize (isSecond l)
+      → s ≡ sumsFrom b l (marketCount b) 0 at (replicate 88 (pos 0)) → g′ ≡ windowsFrom b l (marketCount b) 0 at
       → load.outcome (record {
         book = record {
           regions = b .regions;
@@ -140,54 +143,56 @@ module _ (l : List ℕ) (g : List ℤ) (a : Answer) (h : verdict a ≡ loadVerdi
         answer = a;
       }) g′ ≡ loaded l g
   unfolding bookFrom ringFrom bookOf
-  loaded-accepted e b s g′ q p w = rw (ok-loaded l g (load-is e), e, p, w, q)
+  loaded-accepted e b s g′ at q r p w = rw (ok-loaded l g (load-is e), e, p, w, r, q)
 
 -- ---- a store into a buffer of n bytes
-module _ (b : Book) (ring : List ℤ) (n : ℕ) where
-  pub store-10 : valid b ≡ false → refused 10 ≡ storeVerdict b ring n
-  unfolding storeVerdict
-  store-10 p = rw p
+module _ (second : Bool) (b : Book) (ring : List ℤ) (n : ℕ) where
+  pub store-10 : valid b ≡ false → refused 10 ≡ storeVerdict second b ring n
+  store-10 p = (rw p refl) ∙ store-tests second b ring n
 
   module _ (p : valid b ≡ true) where
-    pub store-11 : (length ring ≡ ringOf b → ⊥) → refused 11 ≡ storeVerdict b ring n
-    unfolding storeVerdict
-    store-11 q = rw (p, ne-eqb (length ring) (ringOf b) q)
+    pub store-11 : (length ring ≡ ringOf b → ⊥) → refused 11 ≡ storeVerdict second b ring n
+    store-11 q = (rw (p, ne-eqb (length ring) (ringOf b) q) refl) ∙ store-tests second b ring n
 
     module _ (q : length ring ≡ ringOf b) where
-      pub store-22 : pricesOk b ring ≡ false → refused 22 ≡ storeVerdict b ring n
-      unfolding storeVerdict
-      store-22 r = rw (p, eq-eqb (length ring) (ringOf b) q, r)
+      pub store-22 : pricesOk b ring ≡ false → refused 22 ≡ storeVerdict second b ring n
+      store-22 r = (rw (p, eq-eqb (length ring) (ringOf b) q, r) refl) ∙ store-tests second b ring n
 
       module _ (r : pricesOk b ring ≡ true) where
-        pub store-23 : n < lengthOf b → refused 23 ≡ storeVerdict b ring n
-        unfolding storeVerdict
-        store-23 s = rw (p, eq-eqb (length ring) (ringOf b) q, r, lt-ltb n (lengthOf b) s)
+        pub store-47 : kindTells second b ≡ false → refused 47 ≡ storeVerdict second b ring n
+        store-47 k = (rw (p, eq-eqb (length ring) (ringOf b) q, r, k) refl) ∙ store-tests second b ring n
 
-        pub store-0 : lengthOf b ≤ n → accepted ≡ storeVerdict b ring n
-        store-0 s = sym (ok-store b ring n (record { book = valid-is b p; ring-size = q; prices = r; room = s }))
+        module _ (k : kindTells second b ≡ true) where
+          pub store-23 : n < lengthOf second b → refused 23 ≡ storeVerdict second b ring n
+          store-23 s = (rw (p, eq-eqb (length ring) (ringOf b) q, r, k, lt-ltb n (lengthOf second b) s) refl) ∙ store-tests second b ring n
 
--- ---- the outcome of a store: head and prices one after the other are the image
-image-is : (b : Book) (ring : List ℤ) (d : List ℕ) → Valid b → length (encode widths (values (lengthOf b) b)) ≡ headSize → lengthOf b ≤ length d
-    → sets (sets d 0 (encode widths (values (lengthOf b) b))) headSize (words (counted b ring)) ≡ imageOf b ring ++ drop (lengthOf b) d
+          pub store-0 : lengthOf second b ≤ n → accepted ≡ storeVerdict second b ring n
+          store-0 s = (rw (p, eq-eqb (length ring) (ringOf b) q, r, k, le-ltb n (lengthOf second b) s) refl) ∙ store-tests second b ring n
+
+-- ---- the outcome of a store: what stands before the prices, and the prices, are the image
+image-is : (second : Bool) (b : Book) (ring : List ℤ) (d : List ℕ) → Valid b → length (encode widths (values (lengthOf second b) (kindOf second) b)) ≡ 148 → lengthOf second b ≤ length d
+    → sets (sets d 0 (frontOf (lengthOf second b) second b)) (headSize second) (words (counted b ring)) ≡ imageOf second b ring ++ drop (lengthOf second b) d
 unfolding imageOf
-image-is b ring d v k h =
-    let head = encode widths (values (lengthOf b) b) in
+image-is second b ring d v k h =
+    let head = encode widths (values (lengthOf second b) (kindOf second) b) in
+    let tail = tailOf second b in
     let rest = words (counted b ring) in
-    let n = length-image b ring v k in
-    let e : 0 + length head ≡ headSize = omega arith in
-    ap (λ (k : ℕ). sets (sets d 0 head) k rest) (sym e) ∙ sym (sets-append d 0 head rest) ∙ sets-front d (head ++ rest) (omega arith)
-    ∙ ap (λ (k : ℕ). (head ++ rest) ++ drop k d) n
+    let n = length-image second b ring v k in
+    let f : 0 + length (head ++ tail) ≡ headSize second = omega (arith, length-append head tail, front-length second b) in
+    ap (λ (i : ℕ). sets (sets d 0 (head ++ tail)) i rest) (sym f) ∙ sym (sets-append d 0 (head ++ tail) rest)
+    ∙ ap (sets d 0) (append-assoc head tail rest) ∙ sets-front d (head ++ (tail ++ rest)) (omega arith)
+    ∙ ap (λ (i : ℕ). (head ++ (tail ++ rest)) ++ drop i d) n
 
-module _ (b : Book) (ring : List ℤ) (d : List ℕ) (a : Answer) (h : verdict a ≡ storeVerdict b ring (length d)) where
-  pub stored-refused : (r : Refusal) → a ≡ Refused r → store.outcome (record { book = b; image = image.Refused r }) d ≡ stored b ring d
+module _ (second : Bool) (b : Book) (ring : List ℤ) (d : List ℕ) (a : Answer) (h : verdict a ≡ storeVerdict second b ring (length d)) where
+  pub stored-refused : (r : Refusal) → a ≡ Refused r → store.outcome (record { book = b; image = image.Refused r }) d ≡ stored second b ring d
   unfolding stored
-  stored-refused r e = let w = is-refused a (storeVerdict b ring (length d)) h r e in rw (w .1, w .0)
+  stored-refused r e = let w = is-refused a (storeVerdict second b ring (length d)) h r e in rw (w .1, w .0)
 
-  pub store-is : a ≡ Accepted → StoreOk b ring (length d)
-  store-is e = store-ok b ring (length d) (ap isAccepted (is-accepted a (storeVerdict b ring (length d)) h e))
+  pub store-is : a ≡ Accepted → StoreOk second b ring (length d)
+  store-is e = store-ok second b ring (length d) (ap isAccepted (is-accepted a (storeVerdict second b ring (length d)) h e))
 
-  pub stored-accepted : a ≡ Accepted → (n : ℕ) (d₁ d₂ : List ℕ) → n ≡ lengthOf b → d₁ ≡ sets d 0 (encode widths (values n b)) → length (encode widths (values n b)) ≡ headSize
-      → d₂ ≡ sets d₁ headSize (words (counted b ring)) → store.outcome (record { book = b; image = image.Length n }) d₂ ≡ stored b ring d
-  stored-accepted e n d₁ d₂ m f k g =
+  pub stored-accepted : a ≡ Accepted → (n at : ℕ) (d₁ d₂ : List ℕ) → n ≡ lengthOf second b → at ≡ headSize second → d₁ ≡ sets d 0 (frontOf n second b) → length (encode widths (values n (kindOf second) b)) ≡ 148
+      → d₂ ≡ sets d₁ at (words (counted b ring)) → store.outcome (record { book = b; image = image.Length n }) d₂ ≡ stored second b ring d
+  stored-accepted e n at d₁ d₂ m p f k g =
       let ok = store-is e in
-      rw (ok-stored b ring d ok, g, f, m, image-is b ring d (ok .book) (rw m at k) (ok .room))
+      rw (ok-stored second b ring d ok, g, p, f, m, image-is second b ring d (ok .book) (rw m at k) (ok .room))

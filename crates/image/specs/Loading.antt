@@ -1,5 +1,5 @@
 -- Loading a book from an image, and the image check. Assumes nothing.
-use mathlib.Core.Bool.{Bool, true, false, not, _&&_}
+use mathlib.Core.Bool.{Bool, true, false, not, _&&_, _||_}
 use mathlib.Core.List.{List, [], _++_}
 use Prim.Native.Nat.{ℕ, zero, suc, _+_, _*_, _/_, _%_, _≤_, _<_}
 use mathlib.Core.Path.{_≡_}
@@ -12,27 +12,49 @@ use Rattle.laws.specs.Bytes.{numberAt, decode, priceAt}
 use Rattle.pricing.specs.Verdict.{Verdict, accepted, refused, refusedAt}
 use Rattle.pricing.specs.Holding.{isEnergy, inRange}
 use Rattle.book.specs.declared.record.Book.{Book}
-use Rattle.book.specs.Record.{closed, marketsOf, placeOf, ringSize, verdict, isAccepted}
+use Rattle.book.specs.Record.{closed, fromOf, toOf, linksKnown, marketsOf, placeOf, ringSize, verdict, isAccepted}
 use Rattle.book.specs.Validity.{valid}
 use Rattle.image.specs.declared.loading.Loaded.{Loaded}
 use Rattle.head.specs.Counted.{marketCount, countAt, howMany}
-use Rattle.head.specs.Layout.{widths, headSize, lengthOf, bookOf, headFrom}
+use Rattle.head.specs.Layout.{widths, headSize, lengthOf, bookOf, isSecond, fromIn, toIn, headFrom}
 
--- "a zero byte .. not zero": bytes 11, 26 and 27
+-- "24 kind 2 under 156 bytes", where kind 2 is known
+abbrev pub lacksTail : List ℕ → Bool
+lacksTail bytes = linksKnown && ltb (length bytes) (headSize (isSecond bytes))
+
+-- 25: the kind is 1 or, where it is known, 2
+abbrev pub kindOk : List ℕ → Bool
+kindOk bytes = eqb (numberAt bytes 4 2) 1 || linksKnown && isSecond bytes
+
+-- of kind 2 "two zeros, at 152 four bytes of 255"
+abbrev pub tailOk : List ℕ → Bool
+tailOk bytes = not (isSecond bytes) || eqb (numberAt bytes 150 2) 0 && eqb (numberAt bytes 152 4) 4294967295
+
+-- "a zero byte .. not zero": bytes 11, 26 and 27, and those of kind 2
 abbrev pub zerosOk : List ℕ → Bool
-zerosOk bytes = eqb (numberAt bytes 11 1) 0 && eqb (numberAt bytes 26 2) 0
+zerosOk bytes = eqb (numberAt bytes 11 1) 0 && eqb (numberAt bytes 26 2) 0 && tailOk bytes
+
+-- the ends that the image says are those of the book that its head says. The book has no fields for them yet, so that this asks for
+-- 255 and 255; it goes once the book is read with the image's ends. It holds of every image of kind 1
+abbrev pub endsSaid : List ℕ → Bool
+endsSaid bytes = eqb (fromIn bytes) (fromOf (headFrom bytes)) && eqb (toIn bytes) (toOf (headFrom bytes))
+
+-- 26: the fields and the zero bytes
+abbrev pub fieldsOk : List ℕ → Bool
+fieldsOk bytes = zerosOk bytes && endsSaid bytes && valid (headFrom bytes)
 
 -- "Load: 24 under 148 bytes or length field not the lent length; 25 kind; 26 a field in bytes 6 to 147 outside what Open or
 -- 10 allows, or a zero byte, unused count or unused period not zero; 27 length formula". What 10 allows is rule 10 itself, of
 -- the head read as a book whose windows start at their first places and whose sums are zero
 unfoldable pub headVerdict : List ℕ → Verdict
 headVerdict bytes =
-    pick (ltb (length bytes) headSize) (refused 24)
+    pick (ltb (length bytes) 148) (refused 24)
     (pick (not (eqb (numberAt bytes 0 4) (length bytes))) (refused 24)
-    (pick (not (eqb (numberAt bytes 4 2) 1)) (refused 25)
-    (pick (not (zerosOk bytes && valid (headFrom bytes))) (refused 26)
-    (pick (not (eqb (length bytes) (lengthOf (headFrom bytes)))) (refused 27)
-    accepted))))
+    (pick (lacksTail bytes) (refused 24)
+    (pick (not (kindOk bytes)) (refused 25)
+    (pick (not (fieldsOk bytes)) (refused 26)
+    (pick (not (eqb (length bytes) (lengthOf (isSecond bytes) (headFrom bytes)))) (refused 27)
+    accepted)))))
 
 -- of market q's prices, which start with price k of the image, the first that is out of range
 module _ (b : Book) (bytes : List ℕ) (first : ℕ) where
@@ -46,7 +68,7 @@ module _ (b : Book) (bytes : List ℕ) (first : ℕ) where
 
 -- "16, place counted from 0 among the image's prices"
 abbrev pub firstBad : List ℕ → ℕ
-firstBad bytes = badFrom (headFrom bytes) bytes headSize (marketCount (headFrom bytes)) 0 0
+firstBad bytes = badFrom (headFrom bytes) bytes (headSize (isSecond bytes)) (marketCount (headFrom bytes)) 0 0
 
 abbrev pub ringOf : Book → ℕ
 ringOf b = ringSize (b .regions) (b .services) (b .window)
@@ -82,10 +104,11 @@ module _ (b : Book) (bytes : List ℕ) where
 
 unfoldable pub bookFrom : List ℕ → Book
 bookFrom bytes =
-    bookOf (decode widths bytes) (sumsFrom (headFrom bytes) bytes (marketCount (headFrom bytes)) 0 headSize (replicate 88 (pos 0)))
+    bookOf (decode widths bytes)
+    (sumsFrom (headFrom bytes) bytes (marketCount (headFrom bytes)) 0 (headSize (isSecond bytes)) (replicate 88 (pos 0)))
 
 unfoldable pub ringFrom : List ℕ → List ℤ
-ringFrom bytes = windowsFrom (headFrom bytes) bytes (marketCount (headFrom bytes)) 0 headSize
+ringFrom bytes = windowsFrom (headFrom bytes) bytes (marketCount (headFrom bytes)) 0 (headSize (isSecond bytes))
 
 pub record Outcome : Type 0 where
   pub verdict : Verdict

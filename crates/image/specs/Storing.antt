@@ -1,5 +1,5 @@
 -- Storing a book as an image. Assumes nothing.
-use mathlib.Core.Bool.{Bool, true, false, not, _&&_}
+use mathlib.Core.Bool.{Bool, true, false, not, _&&_, _||_}
 use mathlib.Core.List.{List, _++_}
 use Prim.Native.Nat.{ℕ, _+_, _*_, _/_, _%_}
 use lib.Dec.{ltb, eqb}
@@ -11,7 +11,7 @@ use Rattle.laws.specs.Lists.{allBelow, total}
 use Rattle.pricing.specs.Verdict.{Verdict, accepted, refused}
 use Rattle.pricing.specs.Holding.{isEnergy, inRange}
 use Rattle.book.specs.declared.record.Book.{Book}
-use Rattle.book.specs.Record.{marketsOf, placeOf, ringSize, verdictOf, isAccepted}
+use Rattle.book.specs.Record.{marketsOf, placeOf, ringSize, hasLink, verdictOf, isAccepted}
 use Rattle.book.specs.Validity.{valid}
 use Rattle.image.specs.declared.storing.Image.{Image}
 use Rattle.image.specs.declared.storing.Image.the-variants.{Length, Refused}
@@ -34,14 +34,19 @@ marketOk b ring q =
 abbrev pub pricesOk : Book → List ℤ → Bool
 pricesOk b ring = allBelow (marketCount b) (marketOk b ring)
 
+-- "47: storing as kind 1 a book with the link; after 22". `second` tells kind 2 (true) from kind 1 (false)
+abbrev pub kindTells : Bool → Book → Bool
+kindTells second b = second || not (hasLink b)
+
 -- "Store: 10; 11; 22 ..; 23 buffer shorter than the image"
-unfoldable pub storeVerdict : Book → List ℤ → ℕ → Verdict
-storeVerdict b ring room =
+unfoldable pub storeVerdict : Bool → Book → List ℤ → ℕ → Verdict
+storeVerdict second b ring room =
     pick (not (valid b)) (refused 10)
     (pick (not (eqb (length ring) (ringSize (b .regions) (b .services) (b .window)))) (refused 11)
     (pick (not (pricesOk b ring)) (refused 22)
-    (pick (ltb room (lengthOf b)) (refused 23)
-    accepted)))
+    (pick (not (kindTells second b)) (refused 47)
+    (pick (ltb room (lengthOf second b)) (refused 23)
+    accepted))))
 
 pub record Outcome : Type 0 where
   pub verdict : Verdict
@@ -62,8 +67,13 @@ abbrev pub outcome : Stored → List ℕ → Outcome
 outcome s buffer = record { verdict = verdict (s .image); length = lengthIn (s .image); book = s .book; buffer = buffer }
 
 -- accepted: the image as the first bytes of the buffer, "Bytes after the image stay"; refused: nothing is written
-unfoldable pub stored : Book → List ℤ → List ℕ → Outcome
-stored b ring buffer =
-    pick (isAccepted (storeVerdict b ring (length buffer)))
-    (record { verdict = accepted; length = lengthOf b; book = b; buffer = imageOf b ring ++ drop (lengthOf b) buffer })
-    (record { verdict = storeVerdict b ring (length buffer); length = 0; book = b; buffer = buffer })
+unfoldable pub stored : Bool → Book → List ℤ → List ℕ → Outcome
+stored second b ring buffer =
+    pick (isAccepted (storeVerdict second b ring (length buffer)))
+    (record {
+      verdict = accepted;
+      length = lengthOf second b;
+      book = b;
+      buffer = imageOf second b ring ++ drop (lengthOf second b) buffer;
+    })
+    (record { verdict = storeVerdict second b ring (length buffer); length = 0; book = b; buffer = buffer })

@@ -12,8 +12,11 @@ use codec::get_u32;
 use codec::get_word;
 use codec::get_words;
 use head::counted::how_many;
+use head::layout::end_in;
 use head::layout::head_from;
 use head::layout::image_length;
+use head::layout::is_second;
+use head::layout::prices_from;
 use pricing::holding::in_range;
 ghost use mathlib.Core.Path.{_≡_};
 ghost use mathlib.Core.Bool.{true, not};
@@ -27,7 +30,8 @@ ghost use Rattle.pricing.specs.Holding.{isEnergy, inRange};
 ghost use Rattle.book.specs.Record.{verdict};
 ghost use Rattle.book.specs.Validity.{valid};
 ghost use Rattle.head.specs.Counted.{marketCount, howMany};
-ghost use Rattle.image.specs.Loading.{headVerdict, badFrom, ringOf, loadVerdict, checked, loadedWindow, windowsFrom, sumsFrom, outcome, loaded};
+ghost use Rattle.head.specs.Layout.{isSecond, headFrom};
+ghost use Rattle.image.specs.Loading.{lacksTail, kindOk, tailOk, endsSaid, fieldsOk, headVerdict, badFrom, ringOf, loadVerdict, checked, loadedWindow, windowsFrom, sumsFrom, outcome, loaded};
 
 pub struct Loaded {
     pub book: Book,
@@ -164,6 +168,54 @@ fn first_bad(bytes: &[u8], book: Book, from: usize) -> usize
     k
 }
 
+// The second kind of image is prepared and not known yet; with this it is.
+const LINKS_KNOWN: bool = false;
+
+// Whether an image of kind 2 ends before its prices.
+fn lacks_tail(bytes: &[u8]) -> bool
+    requires { ⌜ 148 ≤ length (now bytes) ⌝ }
+    ensures { λ x. ⌜ x ≡ lacksTail (now (bytes .entry)) ⌝ }
+{
+    LINKS_KNOWN & (bytes.len() < prices_from(bytes))
+}
+
+// Whether the kind is one that is known.
+fn kind_ok(bytes: &[u8]) -> bool
+    requires { ⌜ 148 ≤ length (now bytes) ⌝ }
+    ensures { λ x. ⌜ x ≡ kindOk (now (bytes .entry)) ⌝ }
+{
+    (get_u16(bytes, 4) == 1) | (LINKS_KNOWN & is_second(bytes))
+}
+
+// Whether the tail of kind 2 has its zeros and its kept bytes.
+fn tail_ok(bytes: &[u8]) -> bool
+    requires { ⌜ (148 ≤ length (now bytes)) × (isSecond (now bytes) ≡ true → 156 ≤ length (now bytes)) ⌝ }
+    ensures { λ x. ⌜ x ≡ tailOk (now (bytes .entry)) ⌝ }
+{
+    if is_second(bytes) {
+        return (get_u16(bytes, 150) == 0) & (get_u32(bytes, 152) == 4294967295);
+    }
+    true
+}
+
+// Whether the image's ends are those of the book that its head says. No book has ends yet.
+fn ends_said(bytes: &[u8]) -> bool
+    requires { ⌜ (148 ≤ length (now bytes)) × (isSecond (now bytes) ≡ true → 156 ≤ length (now bytes)) ⌝ }
+    ensures { λ x. ⌜ x ≡ endsSaid (now (bytes .entry)) ⌝ }
+{
+    (end_in(bytes, 148) == 255) & (end_in(bytes, 149) == 255)
+}
+
+// 26.
+fn fields_ok(bytes: &[u8], book: Book) -> bool
+    requires { ⌜ (148 ≤ length (now bytes)) × (isSecond (now bytes) ≡ true → 156 ≤ length (now bytes)) ⌝ }
+    requires { ⌜ book ≡ headFrom (now bytes) ⌝ }
+    ensures { λ x. ⌜ x ≡ fieldsOk (now (bytes .entry)) ⌝ }
+{
+    let zeros = (get_u8(bytes, 11) == 0) & (get_u16(bytes, 26) == 0);
+    zeros & tail_ok(bytes) & ends_said(bytes) & valid(book)
+}
+
 // 24 to 27 in order.
 fn head_verdict(bytes: &[u8]) -> Answer
     ensures { λ r. ⌜ verdict r ≡ headVerdict (now (bytes .entry)) ⌝ }
@@ -175,15 +227,17 @@ fn head_verdict(bytes: &[u8]) -> Answer
     if get_u32(bytes, 0) as usize != n {
         return Answer::Refused(Refusal::ImageLength);
     }
-    if get_u16(bytes, 4) != 1 {
+    if lacks_tail(bytes) {
+        return Answer::Refused(Refusal::ImageLength);
+    }
+    if !kind_ok(bytes) {
         return Answer::Refused(Refusal::ImageKind);
     }
     let book = head_from(bytes);
-    let zeros = (get_u8(bytes, 11) == 0) & (get_u16(bytes, 26) == 0);
-    if !(zeros & valid(book)) {
+    if !fields_ok(bytes, book) {
         return Answer::Refused(Refusal::ImageField);
     }
-    if n != image_length(book) {
+    if n != image_length(is_second(bytes), book) {
         return Answer::Refused(Refusal::ImageTotal);
     }
     Answer::Accepted
@@ -201,7 +255,7 @@ fn load_verdict(bytes: &[u8], ring: usize) -> Answer
             if ring != ring_size(book.regions, book.services, book.window) {
                 return Answer::Refused(Refusal::Length);
             }
-            let bad = first_bad(bytes, book, 148);
+            let bad = first_bad(bytes, book, prices_from(bytes));
             if bad < how_many(book) {
                 return Answer::Refused(Refusal::Price(bad));
             }
@@ -219,7 +273,7 @@ pub fn check(bytes: &[u8]) -> u32
         Answer::Refused(refusal) => number(refusal),
         Answer::Accepted => {
             let book = head_from(bytes);
-            let bad = first_bad(bytes, book, 148);
+            let bad = first_bad(bytes, book, prices_from(bytes));
             if bad < how_many(book) {
                 return 16;
             }
@@ -240,7 +294,7 @@ pub fn load(bytes: &[u8], ring: &mut [i32]) -> Loaded
         }
         Answer::Accepted => {
             let mut book = head_from(bytes);
-            let sums = load_prices(bytes, book, ring, 148);
+            let sums = load_prices(bytes, book, ring, prices_from(bytes));
             book.sums = sums;
             Loaded { book, answer }
         }

@@ -2,15 +2,17 @@
 use book::record::Answer;
 use book::record::Book;
 use book::record::Refusal;
+use book::record::has_link;
 use book::record::ring_size;
 use book::validity::valid;
 use codec::put_words;
 use head::counted::oldest;
+use head::layout::head_size;
 use head::layout::image_length;
-use head::layout::put_head;
+use head::layout::put_front;
 use pricing::holding::in_range;
 ghost use mathlib.Core.Path.{_≡_};
-ghost use mathlib.Core.Bool.{true};
+ghost use mathlib.Core.Bool.{true, false};
 ghost use Prim.Native.Nat.{_+_, _*_, _≤_, _<_};
 ghost use lib.IntN.{pos, natAbs};
 ghost use lib.ListN.{length, getD};
@@ -161,9 +163,9 @@ pub fn prices_ok(book: Book, ring: &[i32]) -> bool
     ok
 }
 
-// 10, 11, 22 and 23 in order.
-fn store_verdict(book: Book, ring: &[i32], room: usize) -> Answer
-    ensures { λ r. ⌜ verdict r ≡ storeVerdict book (now (ring .entry)) room ⌝ }
+// 10, 11, 22, 47 and 23 in order.
+fn store_verdict(second: bool, book: Book, ring: &[i32], room: usize) -> Answer
+    ensures { λ r. ⌜ verdict r ≡ storeVerdict second book (now (ring .entry)) room ⌝ }
 {
     if !valid(book) {
         return Answer::Refused(Refusal::Invalid);
@@ -174,30 +176,47 @@ fn store_verdict(book: Book, ring: &[i32], room: usize) -> Answer
     if !prices_ok(book, ring) {
         return Answer::Refused(Refusal::Sums);
     }
-    if room < image_length(book) {
+    if !(second | !has_link(book)) {
+        return Answer::Refused(Refusal::ImageFirst);
+    }
+    if room < image_length(second, book) {
         return Answer::Refused(Refusal::Buffer);
     }
     Answer::Accepted
 }
 
-// The image as the first bytes of `buffer`; the bytes after it stay.
-pub fn store(book: Book, ring: &[i32], buffer: &mut [u8]) -> Stored
-    ensures { λ r. ⌜ outcome r (now (buffer .exit)) ≡ stored book (now (ring .entry)) (now (buffer .entry)) ⌝ }
+// The image of kind 2 if `second`, of kind 1 if not, as the first bytes of `buffer`; the bytes after it stay.
+fn store_as(second: bool, book: Book, ring: &[i32], buffer: &mut [u8]) -> Stored
+    ensures { λ r. ⌜ outcome r (now (buffer .exit)) ≡ stored second book (now (ring .entry)) (now (buffer .entry)) ⌝ }
 {
-    let answer = store_verdict(book, ring, buffer.len());
+    let answer = store_verdict(second, book, ring, buffer.len());
     match answer {
         Answer::Refused(refusal) => Stored {
             book,
             image: Image::Refused(refusal),
         },
         Answer::Accepted => {
-            let size = image_length(book);
-            put_head(book, size as u32, buffer);
-            put_prices(book, ring, buffer, 148);
+            let size = image_length(second, book);
+            put_front(second, book, size as u32, buffer);
+            put_prices(book, ring, buffer, head_size(second));
             Stored {
                 book,
                 image: Image::Length(size),
             }
         }
     }
+}
+
+// The kind 1 image of a book. A book that has the additional link is refused by 47: kind 1 has no place for it.
+pub fn store_kind_1(book: Book, ring: &[i32], buffer: &mut [u8]) -> Stored
+    ensures { λ r. ⌜ outcome r (now (buffer .exit)) ≡ stored false book (now (ring .entry)) (now (buffer .entry)) ⌝ }
+{
+    store_as(false, book, ring, buffer)
+}
+
+// The kind 2 image of a book.
+pub fn store_kind_2(book: Book, ring: &[i32], buffer: &mut [u8]) -> Stored
+    ensures { λ r. ⌜ outcome r (now (buffer .exit)) ≡ stored true book (now (ring .entry)) (now (buffer .entry)) ⌝ }
+{
+    store_as(true, book, ring, buffer)
 }

@@ -2,11 +2,9 @@
 use mathlib.Core.Path.{_≡_, sym, ap, _∙_}
 use native.Mathlib.Omega.{arith}
 use Rattle.pricing.specs.Verdict.{Verdict, accepted}
-use Rattle.book.specs.Record.{isAccepted}
 use Rattle.image.specs.Loading.{headVerdict}
-use Rattle.image.proofs.Verdicts.{head-ok}
 use Rattle.book.proofs.Ways.{is-accepted, is-refused}
-use Rattle.image.proofs.Ways.{head-ready, check-head, check-16, check-0}
+use Rattle.image.proofs.Ways.{head-long, head-ready, check-head, check-16, check-0}
 use borrow.Author.Needs.{needs}
 use Rattle.image.proofs.loading.check.Statement.{statement}
 use Rattle.image.proofs.loading.check.Tie as tie
@@ -27,18 +25,22 @@ enum-told : tie.Need-enum-told
 enum-told c = search needs
 
 head-from-requires : tie.Need-head-from-requires
-head-from-requires c κs = head-ok _ (ap isAccepted (said c)) .long
+head-from-requires c κs = head-long _ (said c)
+
+prices-from-requires : tie.Need-prices-from-requires
+prices-from-requires c κs = head-long _ (said (c .before))
 
 first-bad-requires : tie.Need-first-bad-requires
-first-bad-requires c κs = head-ready _ (said (c .before)) _ (c .head-from .ensures)
+first-bad-requires c κs = let h = c .before in head-ready _ (said (h .before)) _ (h .head-from .ensures) _ (c .prices-from .ensures)
 
 how-many-requires : tie.Need-how-many-requires
 how-many-requires c κs = search needs
 
 returns : tie.Need-returns
 returns c =
-    let h = c .before .before .before in
-    check-16 _ (said (h .before)) _ (h .head-from .ensures) _ (c .before .before .first-bad .ensures) (omega (arith, c .before .how-many .ensures .0))
+    let b = c .before .before in
+    let h = b .before .before in
+    check-16 _ (said (h .before)) _ (h .head-from .ensures) _ _ (b .before .prices-from .ensures) (b .first-bad .ensures) (omega (arith, c .before .how-many .ensures .0))
 
 returns-2 : tie.Need-returns-2
 returns-2 c =
@@ -48,8 +50,9 @@ returns-2 c =
 
 returns-3 : tie.Need-returns-3
 returns-3 c =
-    let h = c .before .before .before in
-    check-0 _ (said (h .before)) _ (h .head-from .ensures) _ (c .before .before .first-bad .ensures) (omega (arith, c .before .how-many .ensures .0))
+    let b = c .before .before in
+    let h = b .before .before in
+    check-0 _ (said (h .before)) _ (h .head-from .ensures) _ _ (b .before .prices-from .ensures) (b .first-bad .ensures) (omega (arith, c .before .how-many .ensures .0))
 
 pub check-spec : {M : Type 1} → statement M
 check-spec =
@@ -60,6 +63,7 @@ check-spec =
     number-requires
     enum-told
     head-from-requires
+    prices-from-requires
     first-bad-requires
     how-many-requires
     returns

@@ -1,9 +1,9 @@
 -- `image::loading::load` meets its contract. Assumes nothing.
 use mathlib.Core.Path.{sym, ap, _∙_}
-use Rattle.image.proofs.Verdicts.{LoadOk, ok-head}
 use lib.ListN.{length}
 use Rattle.image.specs.Loading.{ringOf}
-use Rattle.image.proofs.Ways.{head-ready, loaded-refused, load-is, loaded-accepted}
+use Rattle.image.proofs.Verdicts.{LoadOk, ok-head}
+use Rattle.image.proofs.Ways.{head-long, head-ready, loaded-refused, load-is, loaded-accepted}
 use borrow.Author.Needs.{needs}
 use Rattle.image.proofs.loading.load.Statement.{statement}
 use Rattle.image.proofs.loading.load.Tie as tie
@@ -24,13 +24,16 @@ enum-told-2 : tie.Need-enum-told-2
 enum-told-2 c = search needs
 
 head-from-requires : tie.Need-head-from-requires
-head-from-requires c κs = ok c .head .long
+head-from-requires c κs = head-long _ (ok-head _ (ok c .head))
+
+prices-from-requires : tie.Need-prices-from-requires
+prices-from-requires c κs = head-long _ (ok-head _ (ok (c .before .before) .head))
 
 load-prices-requires : tie.Need-load-prices-requires
 load-prices-requires c κs =
-    let h = c .before in
+    let h = c .before .before in
     let o = ok (h .before) in
-    let r = head-ready _ (ok-head _ (o .head)) _ (h .head-from .ensures) in
+    let r = head-ready _ (ok-head _ (o .head)) _ (h .head-from .ensures) _ (c .prices-from .ensures) in
     (r .0, o .ring ∙ sym (ap ringOf (h .head-from .ensures)), r .1)
 
 returns : tie.Need-returns
@@ -44,10 +47,11 @@ same-length c = search needs
 returns-2 : tie.Need-returns-2
 returns-2 c =
     let p = c .before in
-    let h = p .before .before in
+    let f = p .before in
+    let h = f .before .before in
     let v = h .before .before .before in
     let a = v .before .before .args in
-    loaded-accepted (a .bytes .now) (a .ring .now) _ (v .load-verdict .ensures) (h .before .enum-told2 .given .1) _ _ _ (h .head-from .ensures) (p .load-prices .ensures .0) (p .load-prices .ensures .1)
+    loaded-accepted (a .bytes .now) (a .ring .now) _ (v .load-verdict .ensures) (h .before .enum-told2 .given .1) _ _ _ _ (h .head-from .ensures) (f .prices-from .ensures) (p .load-prices .ensures .0) (p .load-prices .ensures .1)
 
 pub load-spec : {M : Type 1} → statement M
 load-spec =
@@ -58,6 +62,7 @@ load-spec =
     closed-requires
     enum-told-2
     head-from-requires
+    prices-from-requires
     load-prices-requires
     returns
     same-length

@@ -1,12 +1,10 @@
 -- `image::loading::load_verdict` meets its contract. Assumes nothing.
-use mathlib.Core.Path.{_≡_, sym, ap, _∙_}
+use mathlib.Core.Path.{_≡_, sym, _∙_}
 use native.Mathlib.Omega.{arith}
 use Rattle.pricing.specs.Verdict.{accepted}
-use Rattle.book.specs.Record.{isAccepted}
 use Rattle.image.specs.Loading.{headVerdict, ringOf}
-use Rattle.image.proofs.Verdicts.{head-ok}
 use Rattle.book.proofs.Ways.{is-accepted, is-refused}
-use Rattle.image.proofs.Ways.{head-ready, load-head, load-11, load-16, load-0}
+use Rattle.image.proofs.Ways.{head-long, head-ready, load-head, load-11, load-16, load-0}
 use borrow.Author.Needs.{needs}
 use Rattle.image.proofs.loading.load_verdict.Statement.{statement}
 use Rattle.image.proofs.loading.load_verdict.Tie as tie
@@ -27,7 +25,7 @@ enum-told-2 : tie.Need-enum-told-2
 enum-told-2 c = search needs
 
 head-from-requires : tie.Need-head-from-requires
-head-from-requires c κs = head-ok _ (ap isAccepted (said c)) .long
+head-from-requires c κs = head-long _ (said c)
 
 ring-size-requires : tie.Need-ring-size-requires
 ring-size-requires c κs = search needs
@@ -37,26 +35,33 @@ returns c =
     let h = c .before .before in
     load-11 _ _ (said (h .before)) _ (h .head-from .ensures) (λ q. c .if1 .taken (q ∙ sym (c .before .ring-size .ensures)))
 
+prices-from-requires : tie.Need-prices-from-requires
+prices-from-requires c κs = head-long _ (said (c .before .before .before))
+
 first-bad-requires : tie.Need-first-bad-requires
-first-bad-requires c κs = head-ready _ (said (c .before .before .before)) _ (c .before .before .head-from .ensures)
+first-bad-requires c κs =
+    let h = c .before .before .before in
+    head-ready _ (said (h .before)) _ (h .head-from .ensures) _ (c .prices-from .ensures)
 
 how-many-requires : tie.Need-how-many-requires
 how-many-requires c κs = search needs
 
 returns-2 : tie.Need-returns-2
 returns-2 c =
-    let e = c .before .before .before in
+    let b = c .before .before in
+    let e = b .before .before in
     let h = e .before .before in
-    load-16 _ _ (said (h .before)) _ (h .head-from .ensures) (sized e) _ (c .before .before .first-bad .ensures) (omega (arith, c .before .how-many .ensures .0))
+    load-16 _ _ (said (h .before)) _ (h .head-from .ensures) (sized e) _ _ (b .before .prices-from .ensures) (b .first-bad .ensures) (omega (arith, c .before .how-many .ensures .0))
 
 returns-3 : tie.Need-returns-3
 returns-3 c = let v = c .before .before in let w = is-refused _ _ (v .head-verdict .ensures) (c .enum-told .given .0 .0) (c .enum-told .given .1) in v .head-verdict .ensures ∙ load-head _ _ (w .1)
 
 returns-4 : tie.Need-returns-4
 returns-4 c =
-    let e = c .before .before .before in
+    let b = c .before .before in
+    let e = b .before .before in
     let h = e .before .before in
-    load-0 _ _ (said (h .before)) _ (h .head-from .ensures) (sized e) _ (c .before .before .first-bad .ensures) (omega (arith, c .before .how-many .ensures .0))
+    load-0 _ _ (said (h .before)) _ (h .head-from .ensures) (sized e) _ _ (b .before .prices-from .ensures) (b .first-bad .ensures) (omega (arith, c .before .how-many .ensures .0))
 
 pub load-verdict-spec : {M : Type 1} → statement M
 load-verdict-spec =
@@ -68,6 +73,7 @@ load-verdict-spec =
     head-from-requires
     ring-size-requires
     returns
+    prices-from-requires
     first-bad-requires
     how-many-requires
     returns-2
