@@ -16,7 +16,7 @@ use Rattle.laws.proofs.Lists.{length-run}
 use Rattle.pricing.specs.Verdict.{Verdict, accepted, refused}
 use Rattle.book.specs.declared.record.Book.{Book}
 use Rattle.book.specs.declared.record.Settings.{Settings}
-use Rattle.book.specs.Record.{tableSize, ringSize, isAccepted}
+use Rattle.book.specs.Record.{tableSize, ringSize, isAccepted, linkCount}
 use Rattle.book.specs.Validity.{valid}
 use Rattle.publishing.specs.Entry.{Entry}
 use Rattle.entries.specs.Checking.{lengthsOk, entryVerdict}
@@ -88,8 +88,8 @@ module _ (b : Book) (ring : List ℤ) (number : ℕ) (e : Entry) (table : List �
           (eqb (length ring) (ringSize (b .regions) (b .services) (b .window))
           && eqb (length (e .offer .prices)) (tableSize (b .regions) (b .services))
           && eqb (length (e .offer .marked)) (b .regions)
-          && eqb (length (e .flows)) (b .regions)
-          && eqb (length (e .factors)) (b .regions)
+          && eqb (length (e .flows)) (linkCount b)
+          && eqb (length (e .factors)) (linkCount b)
           && eqb (length (e .offer .schedule)) (tableSize (b .regions) (b .services) * 2 * b .halves))
           (eqb (length table) (tableSize (b .regions) (b .services))) h
 
@@ -146,7 +146,8 @@ buffer-kept b ring buffer t =
 right-ring : (p : Ledger) (buffer ring : ℕ) → isAccepted (Ledger.restartVerdict false p buffer ring) ≡ true → ring ≡ ringSize (p .settings .regions) (p .settings .services) (p .settings .window)
 unfolding Ledger.restartVerdict
 right-ring p buffer ring e =
-    let a = passes (ltb buffer (Ledger.imageLength p)) (refused 23) _ refl e in
+    let k = passes (not (Ledger.allowed false p)) (refused 47) _ refl e in
+    let a = passes (ltb buffer (Ledger.imageLength false p)) (refused 23) _ refl (k .1) in
     let b = passes (not (eqb ring (ringSize (p .settings .regions) (p .settings .services) (p .settings .window)))) (refused 11) accepted refl (a .1) in
     eqb-true ring (ringSize (p .settings .regions) (p .settings .services) (p .settings .window)) (not-false (eqb ring (ringSize (p .settings .regions) (p .settings .services) (p .settings .window))) (b .0))
 

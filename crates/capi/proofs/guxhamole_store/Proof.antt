@@ -4,8 +4,8 @@ use borrow.Author.Needs.{needs}
 use Rattle.capi.proofs.guxhamole_store.Statement.{statement}
 use Rattle.capi.proofs.guxhamole_store.Tie as tie
 
-store-requires : tie.Need-store-requires
-store-requires c κs = search needs
+store-kind-1-requires : tie.Need-store-kind-1-requires
+store-kind-1-requires c κs = search needs
 
 written-of-requires : tie.Need-written-of-requires
 written-of-requires c κs = search needs
@@ -17,7 +17,7 @@ returns : tie.Need-returns
 returns c =
     let a = c .before .before .before .before .before .before .args in
     stored-by (a .book) (a .ring .now) (a .image .now) (c .written-of .result) (c .written-of .ensures)
-    (c .before .before .before .store .ensures)
+    (c .before .before .before .store-kind-1 .ensures)
 
 pub guxhamole-store-spec : {M : Type 1} → statement M
-guxhamole-store-spec = tie.close (tie.spec store-requires written-of-requires same-length returns)
+guxhamole-store-spec = tie.close (tie.spec store-kind-1-requires written-of-requires same-length returns)

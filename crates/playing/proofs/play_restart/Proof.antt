@@ -5,8 +5,8 @@ use borrow.Author.Needs.{needs}
 use Rattle.playing.proofs.play_restart.Statement.{statement}
 use Rattle.playing.proofs.play_restart.Tie as tie
 
-store-requires : tie.Need-store-requires
-store-requires c κs = search needs
+store-kind-1-requires : tie.Need-store-kind-1-requires
+store-kind-1-requires c κs = search needs
 
 enum-known-size : tie.Need-enum-known-size
 enum-known-size c = search needs
@@ -22,8 +22,8 @@ play-load-requires c κs =
     let z = c .before .before .before .before in
     let t = z .before .before .before .before in
     let a = t .before .before .before .before .args in
-    let f = image-fits (a .book) (a .ring .now) (a .image .now) _ (t .store .result) (t .store .ensures) (z .size2 .given .0 .0) (z .size2 .given .1) in
-    (omega (arith, f, t .store .kept .1 .1 .0), search needs)
+    let f = image-fits (a .book) (a .ring .now) (a .image .now) _ (t .store-kind-1 .result) (t .store-kind-1 .ensures) (z .size2 .given .0 .0) (z .size2 .given .1) in
+    (omega (arith, f, t .store-kind-1 .kept .1 .1 .0), search needs)
 
 same-length : tie.Need-same-length
 same-length c = search needs
@@ -37,7 +37,7 @@ returns c =
     let z = p .before .before .before in
     let t = z .before .before .before .before in
     let a = t .before .before .before .before .args in
-    restart-refused (a .answers .now) _ (a .out) (a .book) (a .other .now) (t .store .result) _ _ (t .store .ensures) (z .size .given .0 .0) (z .size .given .1) (p .put-answer .ensures)
+    restart-refused (a .answers .now) _ (a .out) (a .book) (a .other .now) (t .store-kind-1 .result) _ _ (t .store-kind-1 .ensures) (z .size .given .0 .0) (z .size .given .1) (p .put-answer .ensures)
 
 same-length-3 : tie.Need-same-length-3
 same-length-3 c = search needs
@@ -54,13 +54,13 @@ returns-2 c =
     let z = p .before .before .before .before .before in
     let t = z .before .before .before .before in
     let a = t .before .before .before .before .args in
-    restart-loaded (a .answers .now) _ (a .out) (a .book) (a .other .now) (t .store .result) _ _ (t .store .ensures) (z .size2 .given .0 .0) (z .size2 .given .1) _ _ _ (p .play-load .ensures)
+    restart-loaded (a .answers .now) _ (a .out) (a .book) (a .other .now) (t .store-kind-1 .result) _ _ (t .store-kind-1 .ensures) (z .size2 .given .0 .0) (z .size2 .given .1) _ _ _ (p .play-load .ensures)
 
 pub play-restart-spec : {M : Type 1} → statement M
 play-restart-spec =
     tie.close
     (tie.spec
-    store-requires
+    store-kind-1-requires
     enum-known-size
     put-answer-requires
     enum-known-size-2
