@@ -13,7 +13,7 @@ use Rattle.pricing.specs.Verdict.{Verdict, accepted, refused}
 use Rattle.book.specs.Record.{isAccepted}
 use Rattle.interval_records.specs.Layout.{headLength}
 use Rattle.interval_records.specs.Record.{dueVerdict, headVerdict, recordPlace, regionAt}
-use Rattle.interval_records.proofs.Wholes.{Due, due-accepted, accepted-due}
+use Rattle.interval_records.proofs.Wholes.{Due, LinkDue, due-accepted, accepted-due}
 
 -- a test after another verdict
 module _ (v : Verdict) (t : Bool) (n : ℕ) (z : eqb n 0 ≡ false) where
@@ -24,13 +24,14 @@ module _ (v : Verdict) (t : Bool) (n : ℕ) (z : eqb n 0 ≡ false) where
       (λ a. never (isAccepted v) (rw a at e) a)
 
 -- ---- the tests of the records in number order
-module _ (R M : ℕ) (bytes : List ℕ) (at : ℕ) where
-  pub record Ordered : Type 0 where
-    pub head : Due 16 M bytes at
-    pub total : numberAt bytes (at + 11) 1 ≡ R
-    pub due : (k : ℕ) → k < R → Due 17 M bytes (recordPlace M (at + headLength) k)
-    pub region : (k : ℕ) → k < R → regionAt M bytes (at + headLength) k ≡ k
+pub record Ordered (linked : Bool) (R M : ℕ) (bytes : List ℕ) (at : ℕ) : Type 0 where
+  pub head : Due 16 M bytes at
+  pub total : numberAt bytes (at + 11) 1 ≡ R
+  pub due : (k : ℕ) → k < R → Due 17 M bytes (recordPlace M (at + headLength) k)
+  pub region : (k : ℕ) → k < R → regionAt M bytes (at + headLength) k ≡ k
+  pub link : linked ≡ true → LinkDue bytes (recordPlace M (at + headLength) R)
 
+module _ (R M : ℕ) (bytes : List ℕ) (at : ℕ) where
   pub head-is : isAccepted (headVerdict R M bytes at) ≡ true → Due 16 M bytes at × (numberAt bytes (at + 11) 1 ≡ R)
   unfolding headVerdict
   head-is e =

@@ -10,8 +10,8 @@ use Rattle.pricing.specs.Verdict.{Verdict, accepted, refused}
 use Rattle.book.specs.Record.{isAccepted}
 use Rattle.book.proofs.Places.{Placeless, no-place, taken}
 use Rattle.interval_records.specs.Layout.{headLength}
-use Rattle.interval_records.specs.Record.{kindAt, whole, dueVerdict, headVerdict, recordPlace, regionAt, firstRefusal}
-use Rattle.interval_records.specs.InOrder.{nextVerdict, orderedVerdict}
+use Rattle.interval_records.specs.Record.{kindAt, whole, dueVerdict, linkVerdict, headVerdict, recordPlace, regionAt, firstRefusal}
+use Rattle.interval_records.specs.InOrder.{nextVerdict, regionsVerdict, orderedVerdict}
 
 module _ (P : Verdict → Type 0) (acceptance : P accepted) where
   choice : (t : Bool) {v w : Verdict} → P v → P w → P (pick t v w)
@@ -28,6 +28,10 @@ module _ (P : Verdict → Type 0) (acceptance : P accepted) where
     unfolding dueVerdict
     each-due kind p = choice (not (whole M bytes p)) cut (choice (not (eqb (kindAt bytes p) kind)) kinds acceptance)
 
+    each-link : (linked : Bool) (p : ℕ) → P (linkVerdict linked M bytes p)
+    unfolding linkVerdict
+    each-link linked p = choice linked (each-due 18 p) acceptance
+
     each-head : (R at : ℕ) → P (headVerdict R M bytes at)
     unfolding headVerdict
     each-head R at =
@@ -41,11 +45,13 @@ module _ (P : Verdict → Type 0) (acceptance : P accepted) where
           choice (not (isAccepted (dueVerdict 17 M bytes (recordPlace M first k)))) (each-due 17 (recordPlace M first k))
           (choice (not (eqb (regionAt M bytes first k) k)) order acceptance)
 
-      pub each-ordered : (R at : ℕ) → P (orderedVerdict R M bytes at)
+      pub each-ordered : (linked : Bool) (R at : ℕ) → P (orderedVerdict linked R M bytes at)
       unfolding orderedVerdict
-      each-ordered R at =
+      each-ordered linked R at =
           choice (not (isAccepted (headVerdict R M bytes at))) (each-head R at)
+          (choice (not (isAccepted (regionsVerdict R M bytes (at + headLength))))
           (each-first R 0 (nextVerdict M bytes (at + headLength)) (each-next (at + headLength)))
+          (each-link linked (recordPlace M (at + headLength) R)))
 
 -- ---- no place
 module _ (R M : ℕ) (bytes : List ℕ) where
@@ -58,5 +64,8 @@ module _ (R M : ℕ) (bytes : List ℕ) where
   pub first-place : (n k : ℕ) (f : ℕ → Verdict) → ((j : ℕ) → Placeless (f j)) → Placeless (firstRefusal n k f)
   first-place = each-first Placeless taken
 
-  pub ordered-place : (at : ℕ) → Placeless (orderedVerdict R M bytes at)
-  ordered-place = each-ordered Placeless taken (no-place 40) (no-place 41) M bytes (no-place 45) R
+  pub link-place : (linked : Bool) (p : ℕ) → Placeless (linkVerdict linked M bytes p)
+  link-place = each-link Placeless taken (no-place 40) (no-place 41) M bytes
+
+  pub ordered-place : (linked : Bool) (at : ℕ) → Placeless (orderedVerdict linked R M bytes at)
+  ordered-place linked = each-ordered Placeless taken (no-place 40) (no-place 41) M bytes (no-place 45) linked R

@@ -15,7 +15,7 @@ use Rattle.laws.proofs.Bytes.{number-append-left, number-append-right, le-numbe
 use Rattle.laws.proofs.Fields.{Fit, none, more, length-encode, decode-encode, decode-at}
 use Rattle.laws.proofs.Lists.{length-run, getD-tabulate, tabulate-same}
 use Rattle.laws.proofs.Words.{length-words, price-back, words-back}
-use Rattle.interval_records.specs.Layout.{Interval, headWidths, regionWidths, headLength, regionLength, rowOf, headRecord, regionRecord}
+use Rattle.interval_records.specs.Layout.{Interval, headWidths, regionWidths, linkWidths, headLength, regionLength, linkLength, rowOf, headRecord, regionRecord, linkRecord}
 
 -- what the types of an interval's numbers say: each fits its field
 pub record Fits (v : Interval) : Type 0 where
@@ -53,6 +53,13 @@ pub record RegionSays (markets : ℕ) (bytes : List ℕ) (p : ℕ) (v : Interval
   pub flow : numberAt bytes (p + 8) 4 ≡ ofZ w32 (getD (v .flows) r (pos 0))
   pub factor : numberAt bytes (p + 12) 4 ≡ getD (v .factors) r 0
   pub price : (m : ℕ) → m < markets → toZ w32 (numberAt bytes (p + 16 + 4 * m) 4) ≡ getD (v .prices) (r * markets + m) (pos 0)
+
+-- ---- the additional link's record: the last place of flows and factors
+pub record LinkSays (regions : ℕ) (bytes : List ℕ) (p : ℕ) (v : Interval) : Type 0 where
+  pub length : numberAt bytes p 4 ≡ linkLength
+  pub kind : numberAt bytes (p + 4) 2 ≡ 18
+  pub flow : numberAt bytes (p + 6) 4 ≡ ofZ w32 (getD (v .flows) regions (pos 0))
+  pub factor : numberAt bytes (p + 10) 4 ≡ getD (v .factors) regions 0
 
 -- 1. the bytes of a head say it
 module _ (regions : ℕ) (v : Interval) (h : regions < 256) (f : Fits v) where
@@ -139,6 +146,23 @@ module _ (markets : ℕ) (v : Interval) (m : markets ≤ 11) (f : Fits v) (r : �
             price = price-in pre rest;
           }
 
+-- 1. the bytes of the additional link's record say it
+module _ (R : ℕ) (v : Interval) (f : Fits v) where
+  link-fit : Fit linkWidths (linkLength ∷ 18 ∷ ofZ w32 (getD (v .flows) R (pos 0)) ∷ getD (v .factors) R 0 ∷ [])
+  unfolding linkWidths
+  link-fit =
+      let a : linkLength < 256 ^ 4 = omega arith in
+      let b : 18 < 256 ^ 2 = omega arith in
+      let c : ofZ w32 (getD (v .flows) R (pos 0)) < 256 ^ 4 = omega (arith, fits-ofZ (f .flows R) .fits) in
+      more a (more b (more c (more (f .factors R) none)))
+
+  pub link-says : (pre rest : List ℕ) → LinkSays R (pre ++ (linkRecord R v ++ rest)) (length pre) v
+  unfolding linkRecord linkWidths sizeOf
+  link-says pre rest =
+      let g = field-in pre rest link-fit in
+      let z : length pre + 0 ≡ length pre = omega arith in
+      record { length = rw z at (g 0 (omega arith)); kind = g 1 (omega arith); flow = g 2 (omega arith); factor = g 3 (omega arith) }
+
 -- ---- 4. the bytes that say it
 -- a field, and what stands behind it
 pub field-then : (l : List ℕ) (p w n q x : ℕ) (rest : List ℕ) → Bytes l → p + w ≤ length l → q ≡ p + w → numberAt l p w ≡ x → rest ≡ take n (drop q l) → le w x ++ rest ≡ take (w + n) (drop p l)
@@ -154,6 +178,14 @@ module _ (bytes : List ℕ) (b : Bytes bytes) (at : ℕ) where
       (field-then bytes (at + 6) 4 2 (at + 10) (v .number) _ b (omega arith) (omega arith) (s .number)
       (field-then bytes (at + 10) 1 1 (at + 11) (v .kind) _ b (omega arith) (omega arith) (s .day)
       (field-then bytes (at + 11) 1 0 (at + 12) regions _ b (omega arith) (omega arith) (s .total) refl))))
+
+  pub link-bytes : (regions : ℕ) (v : Interval) → at + linkLength ≤ length bytes → LinkSays regions bytes at v → linkRecord regions v ≡ take linkLength (drop at bytes)
+  unfolding linkRecord linkWidths encode
+  link-bytes regions v h s =
+      field-then bytes at 4 10 (at + 4) linkLength _ b (omega arith) refl (s .length)
+      (field-then bytes (at + 4) 2 8 (at + 6) 18 _ b (omega arith) (omega arith) (s .kind)
+      (field-then bytes (at + 6) 4 4 (at + 10) _ _ b (omega arith) (omega arith) (s .flow)
+      (field-then bytes (at + 10) 4 0 (at + 14) _ _ b (omega arith) (omega arith) (s .factor) refl)))
 
   fields-are : (markets : ℕ) (v : Interval) (r : ℕ) → at + regionLength markets ≤ length bytes → RegionSays markets bytes at v r
       → encode regionWidths (regionLength markets ∷ 17 ∷ r ∷ getD (v .marked) r 0 ∷ ofZ w32 (getD (v .flows) r (pos 0)) ∷ getD (v .factors) r 0 ∷ []) ≡ take 16 (drop at bytes)
@@ -183,3 +215,7 @@ region-length markets v r =
     let fs = encode regionWidths (regionLength markets ∷ 17 ∷ r ∷ getD (v .marked) r 0 ∷ ofZ w32 (getD (v .flows) r (pos 0)) ∷ getD (v .factors) r 0 ∷ []) in
     let e : length fs ≡ 16 = length-encode regionWidths _ refl in
     length-append fs (words (rowOf markets (v .prices) r)) ∙ omega (arith, length-words (rowOf markets (v .prices) r), length-run (λ m. getD (v .prices) (r * markets + m) (pos 0)) markets 0)
+
+pub link-length : (R : ℕ) (v : Interval) → length (linkRecord R v) ≡ linkLength
+unfolding linkRecord linkWidths sizeOf
+link-length R v = length-encode linkWidths _ refl

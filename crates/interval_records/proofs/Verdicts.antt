@@ -1,6 +1,6 @@
 -- What the tests of interval records come to, by the way the code takes: one law for each way out. Assumes nothing.
 use mathlib.Core.Path.{_≡_, refl}
-use mathlib.Core.Bool.{true, false, _&&_, _||_}
+use mathlib.Core.Bool.{Bool, true, false, _&&_, _||_}
 use mathlib.Core.List.{List}
 use Prim.Native.Nat.{ℕ, suc, _+_, _-_, _*_, _<_, _≤_}
 use native.Mathlib.Nat.{mul-le-mul-right}
@@ -11,10 +11,10 @@ use lib.Dec.{eqb, leb}
 use lib.ListN.{length}
 use Rattle.laws.specs.Bytes.{numberAt}
 use Rattle.pricing.specs.Verdict.{Verdict, accepted, refused}
-use Rattle.book.specs.Record.{isAccepted}
-use Rattle.interval_records.specs.Layout.{headLength, regionLength}
-use Rattle.interval_records.specs.Record.{lengthAt, kindAt, knownLength, whole, dueVerdict, headVerdict, recordPlace, regionAt, firstRefusal}
-use Rattle.interval_records.specs.InOrder.{nextVerdict, orderedVerdict}
+use Rattle.book.specs.Record.{isAccepted, linksKnown}
+use Rattle.interval_records.specs.Layout.{headLength, regionLength, linkLength}
+use Rattle.interval_records.specs.Record.{lengthAt, kindAt, knownLength, whole, dueVerdict, linkVerdict, headVerdict, recordPlace, regionAt, firstRefusal}
+use Rattle.interval_records.specs.InOrder.{nextVerdict, regionsVerdict, orderedVerdict}
 
 -- ---- the length of a known kind
 module _ (markets kind : ℕ) where
@@ -25,8 +25,12 @@ module _ (markets kind : ℕ) where
     pub known-region : kind ≡ 17 → regionLength markets ≡ knownLength markets kind
     known-region e = rw (ne-eqb kind 16 n, eq-eqb kind 17 e) refl
 
-    pub known-none : (kind ≡ 17 → ⊥) → 0 ≡ knownLength markets kind
-    known-none m = rw (ne-eqb kind 16 n, ne-eqb kind 17 m) refl
+    module _ (m : kind ≡ 17 → ⊥) (known : Bool) (k : known ≡ linksKnown) where
+      pub known-link : (known && eqb kind 18) ≡ true → linkLength ≡ knownLength markets kind
+      known-link e = rw (ne-eqb kind 16 n, ne-eqb kind 17 m, ← k, e) refl
+
+      pub known-none : (known && eqb kind 18) ≡ false → 0 ≡ knownLength markets kind
+      known-none e = rw (ne-eqb kind 16 n, ne-eqb kind 17 m, ← k, e) refl
 
 -- ---- one record: 40, then 41
 module _ (markets : ℕ) (bytes : List ℕ) (p : ℕ) where
@@ -52,6 +56,16 @@ module _ (markets : ℕ) (bytes : List ℕ) (p : ℕ) where
       pub due-0 : kindAt bytes p ≡ kind → accepted ≡ dueVerdict kind markets bytes p
       unfolding dueVerdict
       due-0 k = rw (w, eq-eqb (kindAt bytes p) kind k) refl
+
+-- ---- the additional link's record
+module _ (linked : Bool) (markets : ℕ) (bytes : List ℕ) (p : ℕ) where
+  pub link-none : linked ≡ false → accepted ≡ linkVerdict linked markets bytes p
+  unfolding linkVerdict
+  link-none e = rw e refl
+
+  pub link-due : linked ≡ true → dueVerdict 18 markets bytes p ≡ linkVerdict linked markets bytes p
+  unfolding linkVerdict
+  link-due e = rw e refl
 
 -- ---- the head: its own refusals, then 41 for its region total
 module _ (regions markets : ℕ) (bytes : List ℕ) (at : ℕ) where
@@ -107,14 +121,22 @@ module _ (n k : ℕ) (f : ℕ → Verdict) where
   unfolding firstRefusal
   first-done l = let e : n - k ≡ 0 = omega arith in rw e refl
 
--- ---- the head, then the records in number order
-module _ (regions markets : ℕ) (bytes : List ℕ) (at : ℕ) where
+-- ---- the head, then the records in number order, then the additional link's
+module _ (linked : Bool) (regions markets : ℕ) (bytes : List ℕ) (at : ℕ) where
   pub ordered-head : isAccepted (headVerdict regions markets bytes at) ≡ false
-      → headVerdict regions markets bytes at ≡ orderedVerdict regions markets bytes at
+      → headVerdict regions markets bytes at ≡ orderedVerdict linked regions markets bytes at
   unfolding orderedVerdict
   ordered-head a = rw a refl
 
-  pub ordered-rest : isAccepted (headVerdict regions markets bytes at) ≡ true
-      → firstRefusal regions 0 (nextVerdict markets bytes (at + headLength)) ≡ orderedVerdict regions markets bytes at
-  unfolding orderedVerdict
-  ordered-rest a = rw a refl
+  module _ (a : isAccepted (headVerdict regions markets bytes at) ≡ true) where
+    abbrev regional : Verdict
+    regional = regionsVerdict regions markets bytes (at + headLength)
+
+    pub ordered-region : isAccepted regional ≡ false → regional ≡ orderedVerdict linked regions markets bytes at
+    unfolding orderedVerdict
+    ordered-region r = rw (a, r) refl
+
+    pub ordered-rest : isAccepted regional ≡ true
+        → linkVerdict linked markets bytes (recordPlace markets (at + headLength) regions) ≡ orderedVerdict linked regions markets bytes at
+    unfolding orderedVerdict
+    ordered-rest r = rw (a, r) refl

@@ -1,5 +1,5 @@
 -- A record that stands whole, and the first refusal of several. Assumes nothing.
-use mathlib.Core.Path.{_≡_, refl, ap}
+use mathlib.Core.Path.{_≡_, refl, sym, ap, _∙_}
 use mathlib.Core.Bool.{Bool, true, false, not, _&&_, _||_}
 use mathlib.Core.List.{List}
 use mathlib.Core.Logic.{⊎-elim}
@@ -12,8 +12,9 @@ use Rattle.laws.specs.Base.{pick}
 use Rattle.laws.specs.Bytes.{numberAt}
 use Rattle.laws.proofs.Tests.{by-test, never, and-left, and-right, lt-or-ge, true-is}
 use Rattle.pricing.specs.Verdict.{Verdict, accepted, refused}
-use Rattle.book.specs.Record.{isAccepted}
-use Rattle.interval_records.specs.Record.{lengthAt, kindAt, knownLength, whole, dueVerdict, firstRefusal}
+use Rattle.book.specs.Record.{isAccepted, linksKnown}
+use Rattle.interval_records.specs.Layout.{linkLength}
+use Rattle.interval_records.specs.Record.{lengthAt, kindAt, knownLength, whole, dueVerdict, linkVerdict, firstRefusal}
 
 -- ---- one record: it is accepted exactly where it is there and has its kind's length
 pub record Due (due markets : ℕ) (bytes : List ℕ) (p : ℕ) : Type 0 where
@@ -62,6 +63,33 @@ module _ (kind markets : ℕ) (known : 6 ≤ knownLength markets kind) (bytes : 
           let z : eqb (knownLength markets kind) 0 ≡ false = ne-eqb (knownLength markets kind) 0 (λ r. omega arith) in
           let y : lengthAt bytes p ≡ knownLength markets kind = eqb-true _ _ (rw (k, z) at (g .2)) in
           record { room = omega (arith, g .0, g .1); size = y; kind = q }
+
+-- ---- the additional link's record, where it is known
+pub record LinkDue (bytes : List ℕ) (p : ℕ) : Type 0 where
+  pub room : p + linkLength ≤ length bytes
+  pub size : numberAt bytes p 4 ≡ linkLength
+  pub kind : numberAt bytes (p + 4) 2 ≡ 18
+
+link-length : (markets : ℕ) → linksKnown ≡ true → knownLength markets 18 ≡ linkLength
+link-length markets k = rw k refl
+
+module _ (linked : Bool) (known : linked ≡ true → linksKnown ≡ true) (markets : ℕ) (bytes : List ℕ) (p : ℕ) where
+  pub link-is : isAccepted (linkVerdict linked markets bytes p) ≡ true → linked ≡ true → LinkDue bytes p
+  unfolding linkVerdict
+  link-is e l =
+      let n = link-length markets (known l) in
+      let d = accepted-due 18 markets (omega (arith, n)) bytes p (rw l at e) in
+      record { room = omega (arith, n, d .room); size = d .size ∙ n; kind = d .kind }
+
+  pub is-link : (linked ≡ true → LinkDue bytes p) → linkVerdict linked markets bytes p ≡ accepted
+  unfolding linkVerdict
+  is-link d =
+      by-test linked
+      (λ l. rw l (from (link-length markets (known l)) (d l)))
+      (λ l. rw l refl)
+    where
+      from : knownLength markets 18 ≡ linkLength → LinkDue bytes p → dueVerdict 18 markets bytes p ≡ accepted
+      from n d = due-accepted 18 markets (omega (arith, n)) bytes p (record { room = omega (arith, n, d .room); size = d .size ∙ sym n; kind = d .kind })
 
 -- ---- several records
 pub all-accepted : (n k : ℕ) (f : ℕ → Verdict) → ((j : ℕ) → k ≤ j → j < k + n → f j ≡ accepted) → firstRefusal n k f ≡ accepted

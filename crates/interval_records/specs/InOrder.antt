@@ -1,5 +1,5 @@
 -- The region records of an interval in number order: what 45 says. Assumes nothing.
-use mathlib.Core.Bool.{not}
+use mathlib.Core.Bool.{Bool, not}
 use mathlib.Core.List.{List}
 use Prim.Native.Nat.{ℕ, _+_}
 use lib.Dec.{eqb}
@@ -7,7 +7,7 @@ use Rattle.laws.specs.Base.{pick}
 use Rattle.pricing.specs.Verdict.{Verdict, accepted, refused}
 use Rattle.book.specs.Record.{isAccepted}
 use Rattle.interval_records.specs.Layout.{headLength}
-use Rattle.interval_records.specs.Record.{dueVerdict, headVerdict, recordPlace, regionAt, firstRefusal}
+use Rattle.interval_records.specs.Record.{dueVerdict, linkVerdict, headVerdict, recordPlace, regionAt, firstRefusal}
 
 -- of one region's record 40, 41, then "45: a region record that isn't the next region; in the reader it takes the place of 42"
 unfoldable pub nextVerdict : ℕ → List ℕ → ℕ → ℕ → Verdict
@@ -18,7 +18,12 @@ nextVerdict markets bytes first k =
     accepted)
 
 -- "Region records now follow their head as 0, 1 and so on"
-unfoldable pub orderedVerdict : ℕ → ℕ → List ℕ → ℕ → Verdict
-orderedVerdict regions markets bytes at =
+abbrev pub regionsVerdict : ℕ → ℕ → List ℕ → ℕ → Verdict
+regionsVerdict regions markets bytes first = firstRefusal regions 0 (nextVerdict markets bytes first)
+
+-- the head, the regions, and the additional link's record "after the last region"
+unfoldable pub orderedVerdict : Bool → ℕ → ℕ → List ℕ → ℕ → Verdict
+orderedVerdict linked regions markets bytes at =
     pick (not (isAccepted (headVerdict regions markets bytes at))) (headVerdict regions markets bytes at)
-    (firstRefusal regions 0 (nextVerdict markets bytes (at + headLength)))
+    (pick (not (isAccepted (regionsVerdict regions markets bytes (at + headLength)))) (regionsVerdict regions markets bytes (at + headLength))
+    (linkVerdict linked markets bytes (recordPlace markets (at + headLength) regions)))

@@ -1,14 +1,16 @@
 -- Interval records: their fields, their places and the bytes of an interval. Assumes nothing.
+use mathlib.Core.Bool.{Bool}
 use mathlib.Core.List.{List, [], _∷_, _++_}
 use Prim.Native.Nat.{ℕ, _+_, _*_}
 use lib.IntN.{ℤ, pos}
 use lib.ListN.{getD}
 use mir.Syntax.{w32}
 use mir.Val.{ofZ}
+use Rattle.laws.specs.Base.{pick}
 use Rattle.laws.specs.Lists.{tabulate, joined}
 use Rattle.laws.specs.Bytes.{encode, words}
 use Rattle.book.specs.declared.record.Book.{Book}
-use Rattle.book.specs.Record.{marketsOf}
+use Rattle.book.specs.Record.{marketsOf, hasLink}
 
 -- what an interval's records say: an entry, its schedule aside
 pub record Interval : Type 0 where
@@ -38,13 +40,21 @@ regionWidths = 4 ∷ 2 ∷ 1 ∷ 1 ∷ 4 ∷ 4 ∷ []
 abbrev pub regionLength : ℕ → ℕ
 regionLength markets = 16 + 4 * markets
 
--- "One head is followed by R region records"
-abbrev pub intervalLength : ℕ → ℕ → ℕ
-intervalLength regions markets = headLength + regions * regionLength markets
+-- the additional link's: "a kind 18, flow (4) and factor (4)"
+unfoldable pub linkWidths : List ℕ
+linkWidths = 4 ∷ 2 ∷ 4 ∷ 4 ∷ []
+
+abbrev pub linkLength : ℕ
+linkLength = 14
+
+-- "One head is followed by R region records", and the link's "after the last region, read and written exactly when the book has
+-- the link"
+abbrev pub intervalLength : Bool → ℕ → ℕ → ℕ
+intervalLength linked regions markets = headLength + regions * regionLength markets + pick linked linkLength 0
 
 -- the bytes of an interval of a book: the only place that knows them
 abbrev pub lengthFor : Book → ℕ
-lengthFor b = intervalLength (b .regions) (marketsOf (b .services))
+lengthFor b = intervalLength (hasLink b) (b .regions) (marketsOf (b .services))
 
 -- the bytes of an interval, "our writer goes upward"
 unfoldable pub headRecord : ℕ → Interval → List ℕ
@@ -59,5 +69,11 @@ regionRecord markets v r =
     (regionLength markets ∷ 17 ∷ r ∷ getD (v .marked) r 0 ∷ ofZ w32 (getD (v .flows) r (pos 0)) ∷ getD (v .factors) r 0 ∷ [])
     ++ words (rowOf markets (v .prices) r)
 
-unfoldable pub intervalBytes : ℕ → ℕ → Interval → List ℕ
-intervalBytes regions markets v = headRecord regions v ++ joined regions 0 (regionRecord markets v)
+-- the link's "flow and factor come as an extra last place"
+unfoldable pub linkRecord : ℕ → Interval → List ℕ
+linkRecord regions v =
+    encode linkWidths (linkLength ∷ 18 ∷ ofZ w32 (getD (v .flows) regions (pos 0)) ∷ getD (v .factors) regions 0 ∷ [])
+
+unfoldable pub intervalBytes : Bool → ℕ → ℕ → Interval → List ℕ
+intervalBytes linked regions markets v =
+    headRecord regions v ++ (joined regions 0 (regionRecord markets v) ++ pick linked (linkRecord regions v) [])

@@ -7,8 +7,8 @@ use lib.ListN.{length}
 use Rattle.laws.specs.Base.{pick}
 use Rattle.laws.specs.Bytes.{numberAt}
 use Rattle.pricing.specs.Verdict.{Verdict, accepted, refused}
-use Rattle.book.specs.Record.{isAccepted}
-use Rattle.interval_records.specs.Layout.{headLength, regionLength}
+use Rattle.book.specs.Record.{isAccepted, linksKnown}
+use Rattle.interval_records.specs.Layout.{headLength, regionLength, linkLength}
 
 -- ---- what a record says first
 abbrev pub lengthAt : List ℕ → ℕ → ℕ
@@ -17,9 +17,12 @@ lengthAt bytes p = numberAt bytes p 4
 abbrev pub kindAt : List ℕ → ℕ → ℕ
 kindAt bytes p = numberAt bytes (p + 4) 2
 
--- the length of a record of a known kind, 0 for an unknown one
+-- the length of a record of a known kind, 0 for an unknown one; kind 18 is of 2026-10
 abbrev pub knownLength : ℕ → ℕ → ℕ
-knownLength markets kind = pick (eqb kind 16) headLength (pick (eqb kind 17) (regionLength markets) 0)
+knownLength markets kind =
+    pick (eqb kind 16) headLength
+    (pick (eqb kind 17) (regionLength markets)
+    (pick (linksKnown && eqb kind 18) linkLength 0))
 
 -- passes 40: "a record missing or cut short, a length below 6 or, for a known kind, another than it has"
 unfoldable pub whole : ℕ → List ℕ → ℕ → Bool
@@ -34,6 +37,10 @@ dueVerdict kind markets bytes p =
     pick (not (whole markets bytes p)) (refused 40)
     (pick (not (eqb (kindAt bytes p) kind)) (refused 41)
     accepted)
+
+-- ---- the additional link's record: "read .. exactly when the book has the link"
+unfoldable pub linkVerdict : Bool → ℕ → List ℕ → ℕ → Verdict
+linkVerdict linked markets bytes p = pick linked (dueVerdict 18 markets bytes p) accepted
 
 -- ---- the head: 40, 41 for its kind, 41 for its region total
 unfoldable pub headVerdict : ℕ → ℕ → List ℕ → ℕ → Verdict

@@ -2,6 +2,7 @@
 use crate::layout::region_length;
 use crate::record::due_verdict;
 use crate::record::head_verdict;
+use crate::record::link_verdict;
 use book::record::Answer;
 use book::record::Refusal;
 use codec::get_u8;
@@ -10,8 +11,7 @@ ghost use Prim.Native.Nat.{_+_, _*_, _≤_};
 ghost use lib.ListN.{length};
 ghost use Rattle.book.specs.Record.{marketsOf, verdict};
 ghost use Rattle.interval_records.specs.Layout.{regionLength};
-ghost use Rattle.interval_records.specs.Record.{firstRefusal};
-ghost use Rattle.interval_records.specs.InOrder.{nextVerdict, orderedVerdict};
+ghost use Rattle.interval_records.specs.InOrder.{nextVerdict, regionsVerdict, orderedVerdict};
 
 // 40, 41 and 45 of region record `k` of those from `first` on.
 fn next_verdict(services: u8, bytes: &[u8], first: usize, k: usize) -> Answer
@@ -32,7 +32,7 @@ fn next_verdict(services: u8, bytes: &[u8], first: usize, k: usize) -> Answer
 // The first refusal of the region records from `first` on.
 fn nexts_verdict(regions: u8, services: u8, bytes: &[u8], first: usize) -> Answer
     requires { ⌜ first ≤ length (now bytes) ⌝ }
-    ensures { λ r. ⌜ verdict r ≡ firstRefusal regions 0 (nextVerdict (marketsOf services) (now (bytes .entry)) first) ⌝ }
+    ensures { λ r. ⌜ verdict r ≡ regionsVerdict regions (marketsOf services) (now (bytes .entry)) first ⌝ }
 {
     let mut k: usize = 0;
     while k < regions as usize {
@@ -45,13 +45,18 @@ fn nexts_verdict(regions: u8, services: u8, bytes: &[u8], first: usize) -> Answe
     Answer::Accepted
 }
 
-// 40, 41 and 45 of an interval's records, its regions in number order.
-pub fn ordered_verdict(regions: u8, services: u8, bytes: &[u8], at: usize) -> Answer
-    ensures { λ r. ⌜ verdict r ≡ orderedVerdict regions (marketsOf services) (now (bytes .entry)) at ⌝ }
+// 40, 41 and 45 of an interval's records, its regions in number order, the additional link's behind them.
+pub fn ordered_verdict(linked: bool, regions: u8, services: u8, bytes: &[u8], at: usize) -> Answer
+    ensures { λ r. ⌜ verdict r ≡ orderedVerdict linked regions (marketsOf services) (now (bytes .entry)) at ⌝ }
 {
     let answer = head_verdict(regions, services, bytes, at);
     if let Answer::Refused(_) = answer {
         return answer;
     }
-    nexts_verdict(regions, services, bytes, at + 12)
+    let next = nexts_verdict(regions, services, bytes, at + 12);
+    if let Answer::Refused(_) = next {
+        return next;
+    }
+    let place = at + 12 + regions as usize * region_length(services);
+    link_verdict(linked, services, bytes, place)
 }

@@ -11,9 +11,10 @@ pub fn region_length(services: u8) -> usize
     16 + 4 * (services as usize + 1)
 }
 
-// The length of a whole interval, for any numbers.
-pub fn interval_length(regions: u8, services: u8) -> usize
-    ensures { λ r. ⌜ (r ≡ intervalLength regions (marketsOf services)) × (r ≤ 265212) ⌝ }
+// The length of a whole interval, for any numbers: with the additional link's record where there is the link.
+pub fn interval_length(linked: bool, regions: u8, services: u8) -> usize
+    ensures { λ r. ⌜ (r ≡ intervalLength linked regions (marketsOf services)) × (r ≤ 265226) ⌝ }
 {
-    12 + regions as usize * region_length(services)
+    let size = 12 + regions as usize * region_length(services);
+    if linked { size + 14 } else { size }
 }

@@ -6,8 +6,15 @@ use codec::get_u8;
 use codec::get_u16;
 use codec::get_u32;
 ghost use mathlib.Core.Path.{_≡_};
-ghost use Rattle.book.specs.Record.{marketsOf, verdict};
-ghost use Rattle.interval_records.specs.Record.{knownLength, whole, dueVerdict, headVerdict};
+ghost use Rattle.book.specs.Record.{marketsOf, linksKnown, verdict};
+ghost use Rattle.interval_records.specs.Record.{knownLength, whole, dueVerdict, linkVerdict, headVerdict};
+
+// Whether the additional link's record is known. It is prepared: no book has the link yet, and a kind 18 is unknown.
+fn links_known() -> bool
+    ensures { λ x. ⌜ x ≡ linksKnown ⌝ }
+{
+    false
+}
 
 // The length of a record of a known kind, or 0.
 fn known_length(services: u8, kind: u16) -> usize
@@ -19,7 +26,7 @@ fn known_length(services: u8, kind: u16) -> usize
     if kind == 17 {
         return region_length(services);
     }
-    0
+    if links_known() & (kind == 18) { 14 } else { 0 }
 }
 
 // Whether a record stands whole at a place, with its kind's length where the kind is known. Any place: lengths are compared by subtraction.
@@ -50,6 +57,16 @@ pub fn due_verdict(kind: u16, services: u8, bytes: &[u8], at: usize) -> Answer
         return Answer::Refused(Refusal::RecordKind);
     }
     Answer::Accepted
+}
+
+// 40 and 41 of the additional link's record at a place, where it is due.
+pub fn link_verdict(linked: bool, services: u8, bytes: &[u8], at: usize) -> Answer
+    ensures { λ r. ⌜ verdict r ≡ linkVerdict linked (marketsOf services) (now (bytes .entry)) at ⌝ }
+{
+    if !linked {
+        return Answer::Accepted;
+    }
+    due_verdict(18, services, bytes, at)
 }
 
 // 40 and 41 of the head at a place, its region total last.

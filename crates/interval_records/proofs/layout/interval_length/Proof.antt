@@ -18,16 +18,27 @@ small c =
 region-length-requires : tie.Need-region-length-requires
 region-length-requires c κs = search needs
 
-mul-result : tie.Need-mul-result
-mul-result c = omega (arith, small c)
+mul-size : tie.Need-mul-size
+mul-size c = omega (arith, small c)
+
+add-size : tie.Need-add-size
+add-size c = omega (arith, small c)
 
 add-result : tie.Need-add-result
-add-result c = omega (arith, small c)
+add-result c = omega (arith, small (c .before))
 
 returns : tie.Need-returns
 returns c =
-    let e : c .region-length .result ≡ regionLength (marketsOf (c .before .args .services)) = c .region-length .ensures .0 in
-    (rw e refl, omega (arith, small c))
+    let p = c .before in
+    let e : p .region-length .result ≡ regionLength (marketsOf (p .before .args .services)) = p .region-length .ensures .0 in
+    (rw (e, c .if1 .taken) refl, omega (arith, small p))
+
+returns-2 : tie.Need-returns-2
+returns-2 c =
+    let p = c .before in
+    let e : p .region-length .result ≡ regionLength (marketsOf (p .before .args .services)) = p .region-length .ensures .0 in
+    (rw (e, c .if1 .left) (omega arith), omega (arith, small p))
 
 pub interval-length-spec : {M : Type 1} → statement M
-interval-length-spec = tie.close (tie.spec region-length-requires mul-result add-result returns)
+interval-length-spec =
+    tie.close (tie.spec region-length-requires mul-size add-size add-result returns returns-2)

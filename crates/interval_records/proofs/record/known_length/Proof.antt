@@ -1,7 +1,7 @@
 -- `interval_records::record::known_length` meets its contract, by a law for each way out. Assumes nothing.
 use mathlib.Core.Path.{_∙_}
 use borrow.Author.Needs.{needs}
-use Rattle.interval_records.proofs.Verdicts.{known-head, known-region, known-none}
+use Rattle.interval_records.proofs.Verdicts.{known-head, known-region, known-link, known-none}
 use Rattle.interval_records.proofs.record.known_length.Statement.{statement}
 use Rattle.interval_records.proofs.record.known_length.Tie as tie
 
@@ -14,8 +14,20 @@ region-length-requires c κs = search needs
 returns-2 : tie.Need-returns-2
 returns-2 c = c .region-length .ensures .0 ∙ known-region _ _ (c .before .before .if1 .left) (c .before .if2 .taken)
 
+links-known-requires : tie.Need-links-known-requires
+links-known-requires c κs = search needs
+
 returns-3 : tie.Need-returns-3
-returns-3 c = known-none _ _ (c .before .if1 .left) (c .if2 .left)
+returns-3 c =
+    let k = c .before in
+    known-link _ _ (k .before .before .if1 .left) (k .before .if2 .left) _ (k .links-known .ensures) (c .if3 .taken)
+
+returns-4 : tie.Need-returns-4
+returns-4 c =
+    let k = c .before in
+    known-none _ _ (k .before .before .if1 .left) (k .before .if2 .left) _ (k .links-known .ensures) (c .if3 .left)
 
 pub known-length-spec : {M : Type 1} → statement M
-known-length-spec = tie.close (tie.spec returns region-length-requires returns-2 returns-3)
+known-length-spec =
+    tie.close
+    (tie.spec returns region-length-requires returns-2 links-known-requires returns-3 returns-4)
