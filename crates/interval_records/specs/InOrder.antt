@@ -24,6 +24,8 @@ regionsVerdict regions markets bytes first = firstRefusal regions 0 (nextVerdict
 -- the head, the regions, and the additional link's record "after the last region"
 unfoldable pub orderedVerdict : Bool → ℕ → ℕ → List ℕ → ℕ → Verdict
 orderedVerdict linked regions markets bytes at =
-    pick (not (isAccepted (headVerdict regions markets bytes at))) (headVerdict regions markets bytes at)
-    (pick (not (isAccepted (regionsVerdict regions markets bytes (at + headLength)))) (regionsVerdict regions markets bytes (at + headLength))
+    let head = headVerdict regions markets bytes at in
+    let others = regionsVerdict regions markets bytes (at + headLength) in
+    pick (not (isAccepted head)) head
+    (pick (not (isAccepted others)) others
     (linkVerdict linked markets bytes (recordPlace markets (at + headLength) regions)))
