@@ -12,7 +12,7 @@ use Rattle.laws.proofs.Tests.{by-test, never}
 use Rattle.pricing.specs.Verdict.{accepted}
 use Rattle.book.specs.Record.{isAccepted, linksKnown}
 use Rattle.interval_records.specs.Layout.{headLength, regionLength, linkLength, intervalLength}
-use Rattle.interval_records.specs.Record.{dueVerdict, linkVerdict, headVerdict, recordPlace, regionAt}
+use Rattle.interval_records.specs.Record.{dueVerdict, headVerdict, recordPlace, regionAt}
 use Rattle.interval_records.specs.InOrder.{nextVerdict, regionsVerdict, orderedVerdict}
 use Rattle.interval_records.proofs.Wholes.{Due, due-accepted, accepted-due, link-is, is-link, all-accepted, accepted-all}
 use Rattle.interval_records.proofs.Heads.{Ordered, then-both, head-is, is-head}

@@ -1,5 +1,6 @@
 -- What the bytes of a whole interval say, and the bytes that say it. Assumes nothing.
-use mathlib.Core.Path.{_≡_, refl, ap, _∙_}
+use mathlib.Core.Path.{_≡_, refl, ap, ap₂, _∙_}
+use mathlib.Core.Bool.{Bool, true, false}
 use mathlib.Core.List.{List, [], _∷_, _++_, append-assoc, append-nil}
 use Prim.Native.Nat.{ℕ, zero, suc, _+_, _-_, _*_, _/_, _%_, _<_, _≤_}
 use native.Mathlib.Nat.{mul-le-mul-right, suc-mul, div-add-mod', mod-lt, div-lt-iff-lt-mul}
@@ -10,20 +11,23 @@ use lib.Seq.{drop-drop, take-add}
 use mir.Syntax.{w32}
 use mir.Val.{toZ}
 use mir.Facts.{toZ-ofZ}
+use Rattle.laws.specs.Base.{pick}
 use Rattle.laws.specs.Lists.{joined}
 use Rattle.laws.specs.Bytes.{sizeOf}
 use Rattle.laws.proofs.Fields.{length-encode}
 use Rattle.laws.proofs.Lists.{tabulate-same}
 use Rattle.laws.proofs.Joined.{tabulate-list, length-joined, sum-same}
-use Rattle.interval_records.specs.Layout.{Interval, headWidths, headLength, regionLength, intervalLength, headRecord, regionRecord, intervalBytes}
+use Rattle.interval_records.specs.Layout.{Interval, headWidths, headLength, regionLength, linkLength, intervalLength, headRecord, regionRecord, linkRecord, intervalBytes}
 use Rattle.interval_records.specs.Record.{recordPlace}
 use Rattle.intervals.specs.Reading.{intervalAt}
-use Rattle.interval_records.proofs.Says.{Fits, Bytes, HeadSays, RegionSays, head-says, region-says, head-bytes, region-bytes, region-length}
+use Rattle.interval_records.proofs.Says.{Fits, Bytes, HeadSays, RegionSays, LinkSays, head-says, region-says, link-says, head-bytes, region-bytes, link-bytes, region-length, link-length}
+use Rattle.intervals.proofs.Lasts.{last-same, last-list}
 
-pub record Says (R M : ℕ) (bytes : List ℕ) (at : ℕ) (v : Interval) : Type 0 where
-  pub room : at + intervalLength R M ≤ length bytes
+pub record Says (linked : Bool) (R M : ℕ) (bytes : List ℕ) (at : ℕ) (v : Interval) : Type 0 where
+  pub room : at + intervalLength linked R M ≤ length bytes
   pub head : HeadSays R bytes at v
   pub regions : (k : ℕ) → k < R → RegionSays M bytes (recordPlace M (at + headLength) k) v k
+  pub link : linked ≡ true → LinkSays R bytes (recordPlace M (at + headLength) R) v
 
 -- ---- lists one after the other
 pub joined-split : {A : Type 0} (f : ℕ → List A) (a b i : ℕ) → joined (a + b) i f ≡ joined a i f ++ joined b (i + a) f
@@ -57,30 +61,44 @@ pub joined-length : (f : ℕ → List ℕ) (size n k : ℕ) → ((j : ℕ) → l
 joined-length f size n k h = length-joined f (λ _. size) n k (λ j p q. h j) ∙ sum-same n k size (λ _. size) (λ j l. refl)
 
 -- ---- how long an interval's bytes are
-pub bytes-length : (R M : ℕ) (v : Interval) → length (intervalBytes R M v) ≡ intervalLength R M
+last-length : (linked : Bool) (R : ℕ) (v : Interval) → length (pick linked (linkRecord R v) []) ≡ pick linked linkLength 0
+last-length true R v = link-length R v
+last-length false R v = refl
+
+pub bytes-length : (linked : Bool) (R M : ℕ) (v : Interval) → length (intervalBytes linked R M v) ≡ intervalLength linked R M
 unfolding intervalBytes headRecord headWidths sizeOf
-bytes-length R M v =
-    length-append (headRecord R v) (joined R 0 (regionRecord M v))
+bytes-length linked R M v =
+    length-append (headRecord R v) (joined R 0 (regionRecord M v) ++ pick linked (linkRecord R v) [])
     ∙ omega (
       arith,
       length-encode headWidths (headLength ∷ 16 ∷ v .number ∷ v .kind ∷ R ∷ []) refl,
+      length-append (joined R 0 (regionRecord M v)) (pick linked (linkRecord R v) []),
       joined-length (regionRecord M v) (regionLength M) R 0 (region-length M v),
+      last-length linked R v,
     )
 
-module _ (R M : ℕ) (small : R ≤ 8) (few : M ≤ 11) (v : Interval) where
+module _ (linked : Bool) (R M : ℕ) (small : R ≤ 8) (few : M ≤ 11) (v : Interval) where
   abbrev rec : ℕ → List ℕ
   rec = regionRecord M v
 
   -- 4. the bytes that say an interval are its bytes
   module _ (bytes : List ℕ) (b : Bytes bytes) (at : ℕ) where
-    pub says-bytes : Says R M bytes at v → intervalBytes R M v ≡ take (intervalLength R M) (drop at bytes)
+    last-bytes : (t : Bool) (p : ℕ) → p + pick t linkLength 0 ≤ length bytes → (t ≡ true → LinkSays R bytes p v) → pick t (linkRecord R v) [] ≡ take (pick t linkLength 0) (drop p bytes)
+    last-bytes true p h s = link-bytes bytes b p R v h (s refl)
+    last-bytes false p h s = refl
+
+    pub says-bytes : Says linked R M bytes at v → intervalBytes linked R M v ≡ take (intervalLength linked R M) (drop at bytes)
     unfolding intervalBytes
     says-bytes s =
+        let n = R * regionLength M in
+        let t = pick linked linkLength 0 in
         let z : at + 12 + 0 * regionLength M ≡ at + 12 = omega arith in
+        let y : 12 + n + t ≡ 12 + (n + t) = omega arith in
+        let e = last-bytes linked (recordPlace M (at + 12) R) (omega (arith, s .room)) (s .link) in
         let j = joined-bytes rec (regionLength M) (at + 12) bytes R 0 (λ k p q. region-bytes bytes b (recordPlace M (at + 12) k) M v k (place-room k (omega arith) (s .room)) (s .regions k (omega arith))) in
-        rw (head-bytes bytes b at R v (omega (arith, s .room)) (s .head), j, take-add 12 (R * regionLength M) (drop at bytes), drop-drop 12 at bytes, z)
+        rw (head-bytes bytes b at R v (omega (arith, s .room)) (s .head), j, e, y, take-add 12 (n + t) (drop at bytes), drop-drop 12 at bytes, take-add n t (drop (at + 12) bytes), drop-drop n (at + 12) bytes, z)
       where
-        place-room : (k : ℕ) → k < R → at + intervalLength R M ≤ length bytes → at + 12 + k * regionLength M + regionLength M ≤ length bytes
+        place-room : (k : ℕ) → k < R → at + intervalLength linked R M ≤ length bytes → at + 12 + k * regionLength M + regionLength M ≤ length bytes
         place-room k h r = omega (arith, mul-le-mul-right (regionLength M) h, suc-mul k (regionLength M))
 
   -- 1. an interval's bytes say it, wherever they stand
@@ -93,7 +111,10 @@ module _ (R M : ℕ) (small : R ≤ 8) (few : M ≤ 11) (v : Interval) where
     rec-length j = region-length M v j
 
     -- record k, with what stands before and behind it
-    apart : (k : ℕ) → k < R → pre ++ (intervalBytes R M v ++ post) ≡ (pre ++ (headRecord R v ++ joined k 0 rec)) ++ (rec k ++ (joined (R - suc k) (suc k) rec ++ post))
+    abbrev after : List ℕ
+    after = pick linked (linkRecord R v) [] ++ post
+
+    apart : (k : ℕ) → k < R → pre ++ (intervalBytes linked R M v ++ post) ≡ (pre ++ (headRecord R v ++ joined k 0 rec)) ++ (rec k ++ (joined (R - suc k) (suc k) rec ++ after))
     unfolding intervalBytes
     apart k h =
         let e : R ≡ k + suc (R - suc k) = omega arith in
@@ -105,22 +126,34 @@ module _ (R M : ℕ) (small : R ≤ 8) (few : M ≤ 11) (v : Interval) where
         length-append pre (headRecord R v ++ joined k 0 rec)
         ∙ omega (arith, length-append (headRecord R v) (joined k 0 rec), head-length, joined-length rec (regionLength M) k 0 rec-length)
 
-    the-head : HeadSays R (pre ++ (intervalBytes R M v ++ post)) (length pre) v
+    the-head : HeadSays R (pre ++ (intervalBytes linked R M v ++ post)) (length pre) v
     unfolding intervalBytes
-    the-head = rw (append-assoc (headRecord R v) (joined R 0 rec) post) (head-says R v (omega arith) f pre (joined R 0 rec ++ post))
+    the-head =
+        let rest = joined R 0 rec ++ pick linked (linkRecord R v) [] in
+        rw (append-assoc (headRecord R v) rest post) (head-says R v (omega arith) f pre (rest ++ post))
 
-    pub bytes-say : Says R M (pre ++ (intervalBytes R M v ++ post)) (length pre) v
+    -- the link's record behind them all
+    behind : linked ≡ true → pre ++ (intervalBytes linked R M v ++ post) ≡ (pre ++ (headRecord R v ++ joined R 0 rec)) ++ (linkRecord R v ++ post)
+    unfolding intervalBytes
+    behind l = rw l (simp append-assoc)
+
+    pub bytes-say : Says linked R M (pre ++ (intervalBytes linked R M v ++ post)) (length pre) v
     bytes-say = record {
-      room = omega (arith, length-append pre (intervalBytes R M v ++ post), length-append (intervalBytes R M v) post, bytes-length R M v);
+      room = omega (arith, length-append pre (intervalBytes linked R M v ++ post), length-append (intervalBytes linked R M v) post, bytes-length linked R M v);
       head = the-head;
-      regions = λ k h. rw (apart k h, ← place k) (region-says M v few f k (omega arith) (pre ++ (headRecord R v ++ joined k 0 rec)) (joined (R - suc k) (suc k) rec ++ post));
+      regions = λ k h. rw (apart k h, ← place k) (region-says M v few f k (omega arith) (pre ++ (headRecord R v ++ joined k 0 rec)) (joined (R - suc k) (suc k) rec ++ after));
+      link = λ l. rw (behind l, ← place R) (link-says R v f (pre ++ (headRecord R v ++ joined R 0 rec)) post);
     }
 
 -- ---- 2. what is read where the bytes say an interval, its records where `which` says
-module _ (R M : ℕ) (some : 0 < M) (bytes : List ℕ) (at : ℕ) (v : Interval) (f : Fits v) (which : ℕ → ℕ)
+module _ (linked : Bool) (R M : ℕ) (some : 0 < M) (bytes : List ℕ) (at : ℕ) (v : Interval) (f : Fits v) (which : ℕ → ℕ)
     (head : HeadSays R bytes at v) (regions : (r : ℕ) → r < R → RegionSays M bytes (recordPlace M (at + headLength) (which r)) v r)
-    (p : length (v .prices) ≡ R * M) (m : length (v .marked) ≡ R) (w : length (v .flows) ≡ R) (x : length (v .factors) ≡ R) where
-  pub says-interval : intervalAt R M bytes at which ≡ v
+    (link : linked ≡ true → LinkSays R bytes (recordPlace M (at + headLength) R) v)
+    (p : length (v .prices) ≡ R * M) (m : length (v .marked) ≡ R) (w : length (v .flows) ≡ pick linked (R + 1) R) (x : length (v .factors) ≡ pick linked (R + 1) R) where
+  abbrev said : Interval
+  said = intervalAt linked R M bytes at which
+
+  pub says-interval : said ≡ v
   says-interval = λ i. record {
     number = head .number i;
     kind = head .day i;
@@ -130,19 +163,25 @@ module _ (R M : ℕ) (some : 0 < M) (bytes : List ℕ) (at : ℕ) (v : Interval)
     factors = factors-are i;
   }
     where
-      marked-are : intervalAt R M bytes at which .marked ≡ v .marked
+      marked-are : said .marked ≡ v .marked
       marked-are = tabulate-same R _ (λ r. getD (v .marked) r 0) (λ r h. regions r h .mark) ∙ tabulate-list 0 (v .marked) R m
 
-      factors-are : intervalAt R M bytes at which .factors ≡ v .factors
-      factors-are = tabulate-same R _ (λ r. getD (v .factors) r 0) (λ r h. regions r h .factor) ∙ tabulate-list 0 (v .factors) R x
+      factors-are : said .factors ≡ v .factors
+      factors-are =
+          ap₂ _++_ (tabulate-same R _ (λ r. getD (v .factors) r 0) (λ r h. regions r h .factor))
+          (last-same linked _ (getD (v .factors) R 0) (λ l. link l .factor))
+          ∙ last-list linked 0 (v .factors) R x
 
-      flows-are : intervalAt R M bytes at which .flows ≡ v .flows
-      flows-are = tabulate-same R _ (λ r. getD (v .flows) r (pos 0)) (λ r h. ap (toZ w32) (regions r h .flow) ∙ toZ-ofZ (f .flows r)) ∙ tabulate-list (pos 0) (v .flows) R w
+      flows-are : said .flows ≡ v .flows
+      flows-are =
+          ap₂ _++_ (tabulate-same R _ (λ r. getD (v .flows) r (pos 0)) (λ r h. ap (toZ w32) (regions r h .flow) ∙ toZ-ofZ (f .flows r)))
+          (last-same linked _ (getD (v .flows) R (pos 0)) (λ l. ap (toZ w32) (link l .flow) ∙ toZ-ofZ (f .flows R)))
+          ∙ last-list linked (pos 0) (v .flows) R w
 
       at-q : (q : ℕ) → q / M * M + q % M ≡ q
       at-q q = div-add-mod' q M
 
-      prices-are : intervalAt R M bytes at which .prices ≡ v .prices
+      prices-are : said .prices ≡ v .prices
       prices-are =
           tabulate-same (R * M) _ (λ q. getD (v .prices) q (pos 0))
           (λ q h. regions (q / M) (div-lt-iff-lt-mul some .1 h) .price (q % M) (mod-lt q some) ∙ ap (λ (k : ℕ). getD (v .prices) k (pos 0)) (at-q q))

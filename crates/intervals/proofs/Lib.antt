@@ -1,3 +1,4 @@
+pub mod Lasts
 pub mod Intervals
 pub mod Readings
 pub mod Sizes

@@ -5,7 +5,7 @@ use mathlib.Core.List.{List}
 use Prim.Native.Nat.{ℕ}
 use Rattle.laws.proofs.Tests.{by-test}
 use Rattle.book.specs.declared.record.Book.{Book}
-use Rattle.book.specs.Record.{marketsOf, isAccepted}
+use Rattle.book.specs.Record.{marketsOf, hasLink, isAccepted}
 use Rattle.book.specs.Validity.{valid}
 use Rattle.book.proofs.Places.{Placeless, no-place, either}
 use Rattle.interval_records.specs.Layout.{Interval}
@@ -18,7 +18,7 @@ module _ (b : Book) (bytes : List ℕ) (at : ℕ) (lent : Interval) where
   unfolding readVerdict
   verdict-place =
       either (not (valid b)) (no-place 10)
-      (either (not (slicesOk b lent)) (no-place 11) (ordered-place (b .regions) (marketsOf (b .services)) bytes at))
+      (either (not (slicesOk b lent)) (no-place 11) (ordered-place (b .regions) (marketsOf (b .services)) bytes (hasLink b) at))
 
   pub read-place : readInterval b bytes at lent .verdict .place ≡ 0
   unfolding readInterval

@@ -1,12 +1,13 @@
 -- What reading an interval comes to, by the way the code takes, and what its loop over the regions leaves. Assumes nothing.
 use mathlib.Core.Path.{_≡_, refl, sym, ap, _∙_}
-use mathlib.Core.Bool.{true, false}
+use mathlib.Core.Bool.{Bool, true, false}
 use mathlib.Core.List.{List, _++_}
 use Prim.Native.Nat.{ℕ, _+_, _*_, _<_, _≤_}
 use native.Mathlib.Nat.{mul-le-mul-right, suc-mul}
 use native.Mathlib.Omega.{arith}
 use lib.IntN.{ℤ}
-use lib.ListN.{length, drop}
+use lib.ListN.{length, set, drop}
+use Rattle.laws.specs.Base.{pick}
 use Rattle.laws.specs.Lists.{run, tabulate}
 use Rattle.laws.specs.Bytes.{numberAt, priceAt}
 use Rattle.laws.proofs.Tests.{by-test, true-is}
@@ -16,27 +17,42 @@ use Rattle.book.specs.declared.record.Book.{Book}
 use Rattle.book.specs.declared.record.Refusal.{Refusal}
 use Rattle.book.specs.declared.record.Answer.{Answer}
 use Rattle.book.specs.declared.record.Answer.the-variants.{Accepted, Refused}
-use Rattle.book.specs.Record.{marketsOf, tableSize, linkCount, verdict, isAccepted}
+use Rattle.book.specs.Record.{marketsOf, tableSize, linksKnown, hasLink, linkCount, verdict, isAccepted}
 use Rattle.book.specs.Validity.{valid}
 use Rattle.book.proofs.Ways.{refusal-is}
 use Rattle.book.proofs.Validities.{valid-is}
 use Rattle.intervals.specs.declared.reading.Found.the-variants.{At, Refused as Not-found}
-use Rattle.interval_records.specs.Layout.{Interval, headLength, regionLength, lengthFor, intervalOf}
+use Rattle.interval_records.specs.Layout.{Interval, headLength, regionLength, linkLength, intervalLength, lengthFor, intervalOf}
 use Rattle.intervals.specs.Lent.{slicesOk}
 use Rattle.intervals.specs.Working.{lentVerdict}
 use Rattle.interval_records.specs.Record.{recordPlace}
 use Rattle.interval_records.specs.InOrder.{orderedVerdict}
-use Rattle.intervals.specs.Reading.{markFrom, flowFrom, factorFrom, priceFrom, readVerdict, Outcome, outcome, readInterval}
-use Rattle.interval_records.proofs.InOrder.{ordered-is, dues-room}
+use Rattle.intervals.specs.Reading.{markFrom, flowFrom, factorFrom, linkFlow, linkFactor, priceFrom, readVerdict, Outcome, outcome, readInterval}
+use Rattle.interval_records.proofs.InOrder.{ordered-is, dues-room, whole-room}
+use Rattle.intervals.proofs.Lasts.{last-done}
 use Rattle.intervals.proofs.Sizes.{prices-size, marked-size, flows-size, factors-size}
 
--- ---- the room of an accepted interval: its head, and all its records
-module _ (R M : ℕ) (bytes : List ℕ) (at : ℕ) (e : isAccepted (orderedVerdict R M bytes at) ≡ true) where
+-- ---- the room of an accepted interval: its head, all its regions' records, and the additional link's
+module _ (linked : Bool) (known : linked ≡ true → linksKnown ≡ true) (R M : ℕ) (bytes : List ℕ) (at : ℕ) (e : isAccepted (orderedVerdict linked R M bytes at) ≡ true) where
   pub head-room : at + headLength ≤ length bytes
-  head-room = ordered-is R M bytes at e .head .room
+  head-room = ordered-is linked known R M bytes at e .head .room
 
   pub records-room : at + headLength + R * regionLength M ≤ length bytes
-  records-room = dues-room R M bytes (at + headLength) head-room (ordered-is R M bytes at e .due) R (omega arith)
+  records-room = dues-room R M bytes (at + headLength) head-room (ordered-is linked known R M bytes at e .due) R (omega arith)
+
+  pub link-room : linked ≡ true → at + headLength + R * regionLength M + linkLength ≤ length bytes
+  link-room l = ordered-is linked known R M bytes at e .link l .room
+
+  pub all-room : at + intervalLength linked R M ≤ length bytes
+  all-room = whole-room linked R M bytes at records-room link-room
+
+-- a book has a place of flows and factors for every region
+pub links-least : (b : Book) → b .regions ≤ linkCount b
+links-least b = least (hasLink b)
+  where
+    least : (t : Bool) → b .regions ≤ pick t (b .regions + 1) (b .regions)
+    least true = omega arith
+    least false = omega arith
 
 -- region r's prices end within R × M of them
 pub row-in : (r R M : ℕ) → r < R → r * M + M ≤ R * M
@@ -57,7 +73,7 @@ module _ (b : Book) (bytes : List ℕ) (at : ℕ) (v : Interval) where
   first-tests = lentVerdict b (length (v .prices)) (length (v .marked)) (length (v .flows)) (length (v .factors))
 
   abbrev then-tests : Verdict
-  then-tests = orderedVerdict (b .regions) (marketsOf (b .services)) bytes at
+  then-tests = orderedVerdict (hasLink b) (b .regions) (marketsOf (b .services)) bytes at
 
   abbrev refusal : Refusal → Outcome
   refusal r = outcome (record { book = b; found = Not-found r }) (v .prices) (v .marked) (v .flows) (v .factors)
@@ -120,18 +136,20 @@ module _ (b : Book) (bytes : List ℕ) (at : ℕ) (v : Interval) where
           abbrev M : ℕ
           M = marketsOf (b .services)
 
-          pub read-accepted : (next number kind : ℕ) (prices : List ℤ) (marked : List ℕ) (flows : List ℤ) (factors : List ℕ)
+          pub read-accepted : (next number kind : ℕ) (prices : List ℤ) (marked : List ℕ) (regional flows : List ℤ) (local factors : List ℕ)
               → next ≡ at + lengthFor b
               → number ≡ numberAt bytes (at + 6) 4
               → kind ≡ numberAt bytes (at + 10) 1
               → prices ≡ tabulate (b .regions * M) (priceFrom M bytes (at + headLength) (λ r. r))
               → marked ≡ tabulate (b .regions) (markFrom M bytes (at + headLength) (λ r. r)) ++ drop (b .regions) (v .marked)
-              → flows ≡ tabulate (b .regions) (flowFrom M bytes (at + headLength) (λ r. r)) ++ drop (b .regions) (v .flows)
-              → factors ≡ tabulate (b .regions) (factorFrom M bytes (at + headLength) (λ r. r)) ++ drop (b .regions) (v .factors)
+              → regional ≡ tabulate (b .regions) (flowFrom M bytes (at + headLength) (λ r. r)) ++ drop (b .regions) (v .flows)
+              → local ≡ tabulate (b .regions) (factorFrom M bytes (at + headLength) (λ r. r)) ++ drop (b .regions) (v .factors)
+              → flows ≡ pick (hasLink b) (set regional (b .regions) (linkFlow (b .regions) M bytes (at + headLength))) regional
+              → factors ≡ pick (hasLink b) (set local (b .regions) (linkFactor (b .regions) M bytes (at + headLength))) local
               → outcome (record { book = b; found = At next number kind }) prices marked flows factors ≡ readInterval b bytes at lent
           unfolding readInterval
-          read-accepted next number kind prices marked flows factors en em ek ep ea ef ex =
+          read-accepted next number kind prices marked regional flows local factors en em ek ep ea er el ef ex =
               let a = tab-done _ (b .regions) (b .regions) (v .marked) marked ea refl (omega (arith, lengths .1)) in
-              let f = tab-done _ (b .regions) (b .regions) (v .flows) flows ef refl (omega (arith, lengths .2)) in
-              let x = tab-done _ (b .regions) (b .regions) (v .factors) factors ex refl (omega (arith, lengths .3)) in
+              let f = last-done _ (b .regions) _ (hasLink b) (v .flows) regional flows (lengths .2) er ef in
+              let x = last-done _ (b .regions) _ (hasLink b) (v .factors) local factors (lengths .3) el ex in
               rw (records-same, records-accepted, en, em, ek, ep, a, f, x) refl

@@ -7,7 +7,7 @@ use Rattle.book.specs.declared.record.Book.{Book}
 use Rattle.book.specs.Record.{tableSize, linkCount}
 use Rattle.interval_records.specs.Layout.{Interval}
 
--- 11: "R × M prices .., R marks .., R flows, R factors"
+-- 11: "R × M prices .., R marks .., R flows, R factors", and the additional link's flow and factor "as an extra last place"
 abbrev pub lengthsOk : Book → ℕ → ℕ → ℕ → ℕ → Bool
 lengthsOk b prices marked flows factors =
     eqb prices (tableSize (b .regions) (b .services)) && eqb marked (b .regions) && eqb flows (linkCount b) && eqb factors (linkCount b)

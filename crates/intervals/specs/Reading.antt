@@ -1,6 +1,6 @@
 -- Reading an interval from its records. Assumes nothing.
-use mathlib.Core.Bool.{not}
-use mathlib.Core.List.{List}
+use mathlib.Core.Bool.{Bool, not}
+use mathlib.Core.List.{List, [], _∷_, _++_}
 use Prim.Native.Nat.{ℕ, _+_, _*_, _/_, _%_}
 use lib.IntN.{ℤ}
 use mir.Syntax.{w32}
@@ -10,7 +10,7 @@ use Rattle.laws.specs.Lists.{tabulate}
 use Rattle.laws.specs.Bytes.{numberAt}
 use Rattle.pricing.specs.Verdict.{Verdict, accepted, refused}
 use Rattle.book.specs.declared.record.Book.{Book}
-use Rattle.book.specs.Record.{marketsOf, verdictOf, isAccepted}
+use Rattle.book.specs.Record.{marketsOf, hasLink, verdictOf, isAccepted}
 use Rattle.book.specs.Validity.{valid}
 use Rattle.intervals.specs.declared.reading.Found.{Found}
 use Rattle.intervals.specs.declared.reading.Found.the-variants.{At, Refused}
@@ -37,15 +37,26 @@ abbrev pub priceFrom : ℕ → List ℕ → ℕ → (ℕ → ℕ) → ℕ → �
 priceFrom markets bytes first which q =
     toZ w32 (numberAt bytes (recordPlace markets first (which (q / markets)) + 16 + 4 * (q % markets)) 4)
 
--- an interval whose region r is record `which r` of those behind its head
-abbrev pub intervalAt : ℕ → ℕ → List ℕ → ℕ → (ℕ → ℕ) → Interval
-intervalAt regions markets bytes at which = record {
+-- the additional link's "flow (4) and factor (4), after the last region", "positive from the first named to the second"
+abbrev pub linkFlow : ℕ → ℕ → List ℕ → ℕ → ℤ
+linkFlow regions markets bytes first = toZ w32 (numberAt bytes (recordPlace markets first regions + 6) 4)
+
+abbrev pub linkFactor : ℕ → ℕ → List ℕ → ℕ → ℕ
+linkFactor regions markets bytes first = numberAt bytes (recordPlace markets first regions + 10) 4
+
+-- an interval whose region r is record `which r` of those behind its head; the link's flow and factor are "an extra last place"
+abbrev pub intervalAt : Bool → ℕ → ℕ → List ℕ → ℕ → (ℕ → ℕ) → Interval
+intervalAt linked regions markets bytes at which = record {
   number = numberAt bytes (at + 6) 4;
   kind = numberAt bytes (at + 10) 1;
   prices = tabulate (regions * markets) (priceFrom markets bytes (at + headLength) which);
   marked = tabulate regions (markFrom markets bytes (at + headLength) which);
-  flows = tabulate regions (flowFrom markets bytes (at + headLength) which);
-  factors = tabulate regions (factorFrom markets bytes (at + headLength) which);
+  flows =
+      tabulate regions (flowFrom markets bytes (at + headLength) which)
+      ++ pick linked (linkFlow regions markets bytes (at + headLength) ∷ []) [];
+  factors =
+      tabulate regions (factorFrom markets bytes (at + headLength) which)
+      ++ pick linked (linkFactor regions markets bytes (at + headLength) ∷ []) [];
 }
 
 -- ---- the call
@@ -54,7 +65,7 @@ unfoldable pub readVerdict : Book → Interval → List ℕ → ℕ → Verdict
 readVerdict b lent bytes at =
     pick (not (valid b)) (refused 10)
     (pick (not (slicesOk b lent)) (refused 11)
-    (orderedVerdict (b .regions) (marketsOf (b .services)) bytes at))
+    (orderedVerdict (hasLink b) (b .regions) (marketsOf (b .services)) bytes at))
 
 pub record Outcome : Type 0 where
   pub verdict : Verdict
@@ -97,6 +108,6 @@ readInterval b bytes at lent =
       verdict = accepted;
       next = at + lengthFor b;
       book = b;
-      interval = intervalAt regions markets bytes at (λ r. r);
+      interval = intervalAt (hasLink b) regions markets bytes at (λ r. r);
     })
     (record { verdict = readVerdict b lent bytes at; next = 0; book = b; interval = lent })

@@ -2,6 +2,7 @@
 use book::record::Answer;
 use book::record::Book;
 use book::record::Refusal;
+use book::record::link_count;
 use book::validity::valid;
 ghost use mathlib.Core.Path.{_≡_};
 ghost use Rattle.book.specs.Record.{verdict};
@@ -21,8 +22,9 @@ pub fn lent_verdict(
         return Answer::Refused(Refusal::Invalid);
     }
     let regions = book.regions as usize;
+    let links = link_count(book);
     let size = regions * (book.services as usize + 1);
-    if !((prices == size) & (marked == regions) & (flows == regions) & (factors == regions)) {
+    if !((prices == size) & (marked == regions) & (flows == links) & (factors == links)) {
         return Answer::Refused(Refusal::Length);
     }
     Answer::Accepted

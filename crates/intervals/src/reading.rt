@@ -3,6 +3,7 @@ use crate::lent::lent_verdict;
 use book::record::Answer;
 use book::record::Book;
 use book::record::Refusal;
+use book::record::has_link;
 use codec::get_u8;
 use codec::get_u32;
 use codec::get_word;
@@ -10,16 +11,18 @@ use codec::get_words;
 use interval_records::in_order::ordered_verdict;
 use interval_records::layout::interval_length;
 ghost use mathlib.Core.Path.{_≡_};
+ghost use mathlib.Core.Bool.{true};
 ghost use mathlib.Core.List.{_++_};
 ghost use Prim.Native.Nat.{_+_, _*_, _≤_, _<_};
 ghost use lib.ListN.{length, set, drop};
 ghost use lib.Seq.{sets};
 ghost use mir.Syntax.{w32};
 ghost use mir.Val.{toZ};
+ghost use Rattle.laws.specs.Base.{pick};
 ghost use Rattle.laws.specs.Lists.{tabulate};
 ghost use Rattle.laws.specs.Bytes.{numberAt, priceAt};
-ghost use Rattle.interval_records.specs.Layout.{regionLength, intervalOf};
-ghost use Rattle.intervals.specs.Reading.{priceFrom, markFrom, flowFrom, factorFrom, outcome, readInterval};
+ghost use Rattle.interval_records.specs.Layout.{regionLength, linkLength, intervalOf};
+ghost use Rattle.intervals.specs.Reading.{priceFrom, markFrom, flowFrom, factorFrom, linkFlow, linkFactor, outcome, readInterval};
 
 // The place after the interval with its number and day kind, or the first refusal.
 pub enum Found {
@@ -96,6 +99,31 @@ fn read_regions(
     }
 }
 
+// The flow and factor of the additional link, from its record behind those of the regions, as the last place of both.
+fn read_link(
+    linked: bool,
+    regions: usize,
+    markets: usize,
+    bytes: &[u8],
+    first: usize,
+    flows: &mut [i32],
+    factors: &mut [u32],
+)
+    requires { ⌜ (linked ≡ true → first + regions * regionLength markets + linkLength ≤ length (now bytes)) ⌝ }
+    requires { ⌜ (linked ≡ true → (regions < length (now flows)) × (regions < length (now factors))) ⌝ }
+    requires { ⌜ markets ≤ 256 ⌝ }
+    ensures { λ _. ⌜ (let flow = linkFlow regions markets (now (bytes .entry)) first in
+        now (flows .exit) ≡ pick linked (set (now (flows .entry)) regions flow) (now (flows .entry))) ⌝ }
+    ensures { λ _. ⌜ (let factor = linkFactor regions markets (now (bytes .entry)) first in
+        now (factors .exit) ≡ pick linked (set (now (factors .entry)) regions factor) (now (factors .entry))) ⌝ }
+{
+    if linked {
+        let at = first + regions * (16 + 4 * markets);
+        flows[regions] = get_word(bytes, at + 6);
+        factors[regions] = get_u32(bytes, at + 10);
+    }
+}
+
 // Reads the interval at a place into the four slices and hands the book back; a refused read fills nothing.
 pub fn read_interval(
     book: Book,
@@ -117,7 +145,8 @@ pub fn read_interval(
             found: Found::Refused(refusal),
         };
     }
-    let answer = ordered_verdict(book.regions, book.services, bytes, at);
+    let linked = has_link(book);
+    let answer = ordered_verdict(linked, book.regions, book.services, bytes, at);
     if let Answer::Refused(refusal) = answer {
         return Taken {
             book,
@@ -136,8 +165,9 @@ pub fn read_interval(
         flows,
         factors,
     );
+    read_link(linked, regions, markets, bytes, at + 12, flows, factors);
     let found = Found::At {
-        next: at + interval_length(book.regions, book.services),
+        next: at + interval_length(linked, book.regions, book.services),
         number: get_u32(bytes, at + 6),
         kind: get_u8(bytes, at + 10),
     };

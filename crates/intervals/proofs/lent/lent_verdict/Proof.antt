@@ -1,13 +1,14 @@
 -- `intervals::lent::lent_verdict` meets its contract: one law for each way out. Assumes nothing.
 use mathlib.Core.Path.{_≡_, refl, sym, _∙_}
-use mathlib.Core.Bool.{true, false}
+use mathlib.Core.Bool.{true, false, _&&_}
+use lib.Dec.{eqb}
 use Prim.Native.Nat.{ℕ, _*_, _≤_}
 use native.Mathlib.Nat.{mul-le-mul}
 use native.Mathlib.Omega.{arith}
 use borrow.Author.Tests.{not-true, not-false}
 use Rattle.pricing.specs.Verdict.{accepted, refused}
 use Rattle.book.specs.declared.record.Book.{Book}
-use Rattle.book.specs.Record.{marketsOf, tableSize}
+use Rattle.book.specs.Record.{marketsOf, tableSize, linkCount}
 use Rattle.book.specs.Validity.{valid}
 use Rattle.book.proofs.Validities.{valid-is}
 use Rattle.intervals.specs.Lent.{lengthsOk}
@@ -28,6 +29,12 @@ module _ (b : Book) (prices marked flows factors : ℕ) where
   lent-0 : valid b ≡ true → lengthsOk b prices marked flows factors ≡ true → accepted ≡ lentVerdict b prices marked flows factors
   unfolding lentVerdict
   lent-0 v l = rw (v, l) refl
+
+  -- by the number of links that was reckoned
+  lengths-by : (links : ℕ) → links ≡ linkCount b
+      → (eqb prices (tableSize (b .regions) (b .services)) && eqb marked (b .regions) && eqb flows links && eqb factors links)
+      ≡ lengthsOk b prices marked flows factors
+  lengths-by links e = rw e refl
 
 -- a book that rule 10 accepts
 good : (c : tie.Else1) → valid (c .before .before .args .book) ≡ true
@@ -52,6 +59,9 @@ returns c =
 cast-regions : tie.Need-cast-regions
 cast-regions c = search needs
 
+link-count-requires : tie.Need-link-count-requires
+link-count-requires c κs = search needs
+
 cast-size : tie.Need-cast-size
 cast-size c = search needs
 
@@ -59,23 +69,34 @@ add-size : tie.Need-add-size
 add-size c = search needs
 
 mul-size : tie.Need-mul-size
-mul-size c = omega (arith, small (c .before .before))
+mul-size c = omega (arith, small (c .before .before .before))
 
 returns-2 : tie.Need-returns-2
 returns-2 c =
-    let g = c .before .before .before in
+    let k = c .before .before in
+    let g = k .before .before in
     let a = g .before .before .args in
-    let l : lengthsOk (a .book) (a .prices) (a .marked) (a .flows) (a .factors) ≡ false = not-true _ (c .if2 .taken) in
-    lent-11 (a .book) (a .prices) (a .marked) (a .flows) (a .factors) (good g) l
+    let e = lengths-by (a .book) (a .prices) (a .marked) (a .flows) (a .factors) (k .link-count .result) (k .link-count .ensures) in
+    lent-11 (a .book) (a .prices) (a .marked) (a .flows) (a .factors) (good g) (sym e ∙ not-true _ (c .if2 .taken))
 
 returns-3 : tie.Need-returns-3
 returns-3 c =
-    let g = c .before .before .before in
+    let k = c .before .before in
+    let g = k .before .before in
     let a = g .before .before .args in
-    let l : lengthsOk (a .book) (a .prices) (a .marked) (a .flows) (a .factors) ≡ true = not-false _ (c .if2 .left) in
-    lent-0 (a .book) (a .prices) (a .marked) (a .flows) (a .factors) (good g) l
+    let e = lengths-by (a .book) (a .prices) (a .marked) (a .flows) (a .factors) (k .link-count .result) (k .link-count .ensures) in
+    lent-0 (a .book) (a .prices) (a .marked) (a .flows) (a .factors) (good g) (sym e ∙ not-false _ (c .if2 .left))
 
 pub lent-verdict-spec : {M : Type 1} → statement M
 lent-verdict-spec =
     tie.close
-    (tie.spec valid-requires returns cast-regions cast-size add-size mul-size returns-2 returns-3)
+    (tie.spec
+    valid-requires
+    returns
+    cast-regions
+    link-count-requires
+    cast-size
+    add-size
+    mul-size
+    returns-2
+    returns-3)
