@@ -65,3 +65,6 @@ pub whole-room : (linked : Bool) (R M : ℕ) (bytes : List ℕ) (at : ℕ) → a
     → (linked ≡ true → at + headLength + R * regionLength M + linkLength ≤ length bytes) → at + intervalLength linked R M ≤ length bytes
 whole-room true R M bytes at h k = omega (arith, k refl)
 whole-room false R M bytes at h k = omega arith
+
+pub link-fits : (linked : Bool) (R M n at : ℕ) → at + intervalLength linked R M ≤ n → linked ≡ true → at + headLength + R * regionLength M + linkLength ≤ n
+link-fits linked R M n at h l = let k : at + intervalLength true R M ≤ n = rw l at h in omega (arith, k)

@@ -1,7 +1,7 @@
 -- The writer of interval records, in plain numbers and lists: its fields put one behind the other, the loop over regions, what its
 -- tests say, and the outcome by the way the call takes. Assumes nothing.
 use mathlib.Core.Path.{_≡_, refl, sym, ap, _∙_}
-use mathlib.Core.Bool.{true, false}
+use mathlib.Core.Bool.{Bool, true, false}
 use mathlib.Core.List.{List, [], _∷_, _++_}
 use Prim.Native.Nat.{ℕ, suc, _+_, _*_, _-_, _<_, _≤_}
 use native.Mathlib.Nat.{suc-mul}
@@ -24,15 +24,15 @@ use Rattle.book.specs.declared.record.Book.{Book}
 use Rattle.book.specs.declared.record.Refusal.{Refusal}
 use Rattle.book.specs.declared.record.Answer.{Answer}
 use Rattle.book.specs.declared.record.Answer.the-variants.{Accepted, Refused}
-use Rattle.book.specs.Record.{marketsOf, verdict, isAccepted}
+use Rattle.book.specs.Record.{marketsOf, hasLink, verdict, isAccepted}
 use Rattle.book.specs.Validity.{valid}
 use Rattle.book.proofs.Ways.{refusal-is}
-use Rattle.interval_records.specs.Layout.{Interval, intervalOf, headWidths, headLength, regionWidths, regionLength, rowOf}
-use Rattle.interval_records.specs.Layout.{intervalLength, lengthFor, headRecord, regionRecord, intervalBytes}
+use Rattle.interval_records.specs.Layout.{Interval, intervalOf, headWidths, headLength, regionWidths, regionLength, linkWidths, linkLength, rowOf}
+use Rattle.interval_records.specs.Layout.{intervalLength, lengthFor, headRecord, regionRecord, linkRecord, intervalBytes}
 use Rattle.intervals.specs.Lent.{lengthsOk, slicesOk}
 use Rattle.intervals.specs.Working.{lentVerdict}
 use Rattle.interval_records.proofs.Says.{region-length}
-use Rattle.intervals.proofs.Intervals.{bytes-length}
+use Rattle.intervals.proofs.Intervals.{bytes-length, joined-length}
 use Rattle.interval_writer.specs.declared.writing.Size.the-variants.{Length, Refused as Not-written}
 use Rattle.interval_writer.specs.Writing.{writeLengths, writeVerdict, outcome, writeInterval}
 
@@ -76,6 +76,27 @@ module _ (l i j k m n o p : List ℕ) (at size region mark flow factor : ℕ) (r
       (put-then k m o (at + 7) (at + 8) 1 mark _ _ (omega arith) d
       (put-then m n o (at + 8) (at + 12) 4 flow _ _ (omega arith) e
       (put-last n o (at + 12) 4 factor f))))))
+
+-- the record of the additional link
+module _ (l k m n o : List ℕ) (at flow factor : ℕ) where
+  pub link-puts : k ≡ sets l at (le 4 14) → m ≡ sets k (at + 4) (le 2 18) → n ≡ sets m (at + 6) (le 4 flow) → o ≡ sets n (at + 10) (le 4 factor)
+      → o ≡ sets l at (encode linkWidths (linkLength ∷ 18 ∷ flow ∷ factor ∷ []))
+  unfolding linkWidths
+  link-puts a b c d =
+      put-then l k o at (at + 4) 4 14 _ _ refl a
+      (put-then k m o (at + 4) (at + 6) 2 18 _ _ (omega arith) b
+      (put-then m n o (at + 6) (at + 10) 4 flow _ _ (omega arith) c
+      (put-last n o (at + 10) 4 factor d)))
+
+module _ (linked : Bool) (R : ℕ) (v : Interval) (l m : List ℕ) (at : ℕ) where
+  pub last-put : linked ≡ true → (flow : ℤ) (p : ℕ) → p ≡ at → flow ≡ getD (v .flows) R (pos 0)
+      → m ≡ sets l p (encode linkWidths (linkLength ∷ 18 ∷ ofZ w32 flow ∷ getD (v .factors) R 0 ∷ []))
+      → m ≡ sets l at (pick linked (linkRecord R v) [])
+  unfolding linkRecord
+  last-put t flow p q e f = rw t (rw (q, e) at f)
+
+  pub last-none : linked ≡ false → m ≡ l → m ≡ sets l at (pick linked (linkRecord R v) [])
+  last-none t e = rw t e
 
 -- of an interval's numbers, with the flow that was read
 pub record-put : (M r : ℕ) (v : Interval) (flow : ℤ) (l m : List ℕ) (at : ℕ) → flow ≡ getD (v .flows) r (pos 0)
@@ -146,16 +167,21 @@ module _ (b : Book) (prices marked flows factors room : ℕ) (a : Answer) (h : v
   write-0 q l = rw (lengths-by b prices marked flows factors room, is-lent q, le-ltb room (lengthFor b) l) refl
 
 -- ---- the call, by the answer of its tests
--- the head, then the regions, whose records say nothing of the interval's number and day kind
-interval-puts : (R M : ℕ) (v : Interval) (buffer head all : List ℕ)
+-- the head, then the regions, whose records say nothing of the interval's number and day kind, then the additional link
+interval-puts : (linked : Bool) (R M : ℕ) (v : Interval) (buffer head others all : List ℕ)
     → head ≡ sets buffer 0 (encode headWidths (headLength ∷ 16 ∷ v .number ∷ v .kind ∷ R ∷ []))
-    → all ≡ sets head headLength (joined R 0 (regionRecord M (intervalOf 0 0 (v .prices) (v .marked) (v .flows) (v .factors))))
-    → all ≡ sets buffer 0 (intervalBytes R M v)
-unfolding intervalBytes headRecord headWidths sizeOf regionRecord
-interval-puts R M v buffer head all =
+    → others ≡ sets head headLength (joined R 0 (regionRecord M (intervalOf 0 0 (v .prices) (v .marked) (v .flows) (v .factors))))
+    → all ≡ sets others (headLength + R * regionLength M) (pick linked (linkRecord R (intervalOf 0 0 [] [] (v .flows) (v .factors))) [])
+    → all ≡ sets buffer 0 (intervalBytes linked R M v)
+unfolding intervalBytes headRecord headWidths sizeOf regionRecord linkRecord
+interval-puts linked R M v buffer head others all e f g =
     let vs = headLength ∷ 16 ∷ v .number ∷ v .kind ∷ R ∷ [] in
     let z : length (encode headWidths vs) ≡ 12 = length-encode headWidths vs refl in
-    part-then buffer head all (encode headWidths vs) (joined R 0 (regionRecord M v)) 0 12 (omega (arith, z))
+    let rows = joined R 0 (regionRecord M v) in
+    let y : length rows ≡ R * regionLength M = joined-length (regionRecord M v) (regionLength M) R 0 (region-length M v) in
+    let last = pick linked (linkRecord R v) [] in
+    part-then buffer head all (encode headWidths vs) (rows ++ last) 0 12 (omega (arith, z)) e
+    (part-then head others all rows last 12 (12 + R * regionLength M) (omega (arith, y)) f g)
 
 module _ (b : Book) (v : Interval) (buffer : List ℕ) (a : Answer) (h : verdict a ≡ writeVerdict b v (length buffer)) where
   pub written-refused : (r : Refusal) → a ≡ Refused r
@@ -173,16 +199,17 @@ module _ (b : Book) (v : Interval) (buffer : List ℕ) (a : Answer) (h : verdict
   write-asks q = accepted-writes b v (length buffer) (is-accepted q)
 
   pub written-accepted : a ≡ Accepted → let R = b .regions in let M = marketsOf (b .services) in
-      (n : ℕ) (head all : List ℕ) → n ≡ lengthFor b
+      (n : ℕ) (head others all : List ℕ) → n ≡ lengthFor b
       → head ≡ sets buffer 0 (encode headWidths (headLength ∷ 16 ∷ v .number ∷ v .kind ∷ R ∷ []))
-      → all ≡ sets head headLength (joined R 0 (regionRecord M (intervalOf 0 0 (v .prices) (v .marked) (v .flows) (v .factors))))
+      → others ≡ sets head headLength (joined R 0 (regionRecord M (intervalOf 0 0 (v .prices) (v .marked) (v .flows) (v .factors))))
+      → all ≡ sets others (headLength + R * regionLength M) (pick (hasLink b) (linkRecord R (intervalOf 0 0 [] [] (v .flows) (v .factors))) [])
       → outcome (record { book = b; size = Length n }) all ≡ writeInterval b v buffer
   unfolding writeInterval
-  written-accepted q n head all l e f =
-      let bytes = intervalBytes (b .regions) (marketsOf (b .services)) v in
-      let k : length bytes ≡ lengthFor b = bytes-length (b .regions) (marketsOf (b .services)) v in
+  written-accepted q n head others all l e f g =
+      let bytes = intervalBytes (hasLink b) (b .regions) (marketsOf (b .services)) v in
+      let k : length bytes ≡ lengthFor b = bytes-length (hasLink b) (b .regions) (marketsOf (b .services)) v in
       let s : all ≡ bytes ++ drop (lengthFor b) buffer =
-      interval-puts (b .regions) (marketsOf (b .services)) v buffer head all e f
+      interval-puts (hasLink b) (b .regions) (marketsOf (b .services)) v buffer head others all e f g
       ∙ sets-front buffer bytes (omega (arith, k, write-asks q .long))
       ∙ ap (λ (i : ℕ). bytes ++ drop i buffer) k in
       rw (is-accepted q, l, s) refl

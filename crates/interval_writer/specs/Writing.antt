@@ -7,7 +7,7 @@ use lib.ListN.{length, drop}
 use Rattle.laws.specs.Base.{pick}
 use Rattle.pricing.specs.Verdict.{Verdict, accepted, refused}
 use Rattle.book.specs.declared.record.Book.{Book}
-use Rattle.book.specs.Record.{marketsOf, verdictOf, isAccepted}
+use Rattle.book.specs.Record.{marketsOf, hasLink, verdictOf, isAccepted}
 use Rattle.book.specs.Validity.{valid}
 use Rattle.interval_writer.specs.declared.writing.Size.{Size}
 use Rattle.interval_writer.specs.declared.writing.Size.the-variants.{Length, Refused}
@@ -52,6 +52,6 @@ writeInterval b v buffer =
       verdict = accepted;
       length = lengthFor b;
       book = b;
-      buffer = intervalBytes (b .regions) (marketsOf (b .services)) v ++ drop (lengthFor b) buffer;
+      buffer = intervalBytes (hasLink b) (b .regions) (marketsOf (b .services)) v ++ drop (lengthFor b) buffer;
     })
     (record { verdict = writeVerdict b v (length buffer); length = 0; book = b; buffer = buffer })

@@ -2,6 +2,7 @@
 use book::record::Answer;
 use book::record::Book;
 use book::record::Refusal;
+use book::record::has_link;
 use codec::bits32;
 use codec::put;
 use codec::put_words;
@@ -9,16 +10,19 @@ use interval_records::layout::interval_length;
 use interval_records::layout::region_length;
 use intervals::lent::lent_verdict;
 ghost use mathlib.Core.Path.{_≡_};
+ghost use mathlib.Core.Bool.{true};
 ghost use mathlib.Core.List.{[], _∷_, _++_};
-ghost use Prim.Native.Nat.{_+_, _*_, _≤_};
+ghost use Prim.Native.Nat.{_+_, _*_, _≤_, _<_};
 ghost use lib.ListN.{length};
 ghost use lib.Seq.{sets};
 ghost use mir.Syntax.{w32};
 ghost use mir.Val.{ofZ};
+ghost use Rattle.laws.specs.Base.{pick};
 ghost use Rattle.laws.specs.Lists.{joined};
 ghost use Rattle.laws.specs.Bytes.{encode, words};
 ghost use Rattle.book.specs.Record.{marketsOf, verdict};
-ghost use Rattle.interval_records.specs.Layout.{headWidths, headLength, regionWidths, regionLength, rowOf, regionRecord, intervalOf};
+ghost use Rattle.interval_records.specs.Layout.{headWidths, headLength, regionWidths, regionLength, linkWidths, linkLength};
+ghost use Rattle.interval_records.specs.Layout.{rowOf, regionRecord, linkRecord, intervalOf};
 ghost use Rattle.interval_writer.specs.Writing.{writeLengths, outcome, writeInterval};
 
 // The interval's length in bytes, or the first refusal.
@@ -107,6 +111,39 @@ fn put_regions(
     }
 }
 
+// The record of the additional link at a place.
+fn put_link(buffer: &mut [u8], at: usize, flow: i32, factor: u32)
+    requires { ⌜ at + linkLength ≤ length (now buffer) ⌝ }
+    ensures { λ _. ⌜ (let values = linkLength ∷ 18 ∷ ofZ w32 flow ∷ factor ∷ [] in
+        now (buffer .exit) ≡ sets (now (buffer .entry)) at (encode linkWidths values)) ⌝ }
+{
+    put(buffer, at, 4, 14);
+    put(buffer, at + 4, 2, 18);
+    put(buffer, at + 6, 4, bits32(flow) as u64);
+    put(buffer, at + 10, 4, factor as u64);
+}
+
+// The record of the additional link, of the last flow and factor, behind those of the regions, where there is the link.
+fn put_last(
+    linked: bool,
+    buffer: &mut [u8],
+    regions: usize,
+    services: u8,
+    flows: &[i32],
+    factors: &[u32],
+)
+    requires { ⌜ (linked ≡ true → headLength + regions * regionLength (marketsOf services) + linkLength ≤ length (now buffer)) ⌝ }
+    requires { ⌜ (linked ≡ true → (regions < length (now flows)) × (regions < length (now factors))) ⌝ }
+    ensures { λ _. ⌜ (let v = intervalOf 0 0 [] [] (now (flows .entry)) (now (factors .entry)) in
+        let place = headLength + regions * regionLength (marketsOf services) in
+        now (buffer .exit) ≡ sets (now (buffer .entry)) place (pick linked (linkRecord regions v) [])) ⌝ }
+{
+    if linked {
+        let place = 12 + regions * region_length(services);
+        put_link(buffer, place, flows[regions], factors[regions]);
+    }
+}
+
 // 10, 11 and 23 in order. The slices and the buffer are told by their lengths.
 fn write_verdict(
     book: Book,
@@ -122,7 +159,7 @@ fn write_verdict(
     if let Answer::Refused(_) = lent {
         return lent;
     }
-    if room < interval_length(book.regions, book.services) {
+    if room < interval_length(has_link(book), book.regions, book.services) {
         return Answer::Refused(Refusal::Buffer);
     }
     Answer::Accepted
@@ -157,18 +194,21 @@ pub fn write_interval(
             size: Size::Refused(refusal),
         };
     }
+    let linked = has_link(book);
+    let regions = book.regions as usize;
     put_head(buffer, book.regions, number, kind);
     put_regions(
         buffer,
-        book.regions as usize,
+        regions,
         book.services,
         prices,
         marked,
         flows,
         factors,
     );
+    put_last(linked, buffer, regions, book.services, flows, factors);
     Written {
         book,
-        size: Size::Length(interval_length(book.regions, book.services)),
+        size: Size::Length(interval_length(linked, book.regions, book.services)),
     }
 }
