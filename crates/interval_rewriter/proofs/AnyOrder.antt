@@ -12,12 +12,12 @@ use Rattle.laws.specs.Bytes.{numberAt}
 use Rattle.laws.proofs.Tests.{by-test, never, true-is}
 use Rattle.laws.proofs.Lists.{any-at, firstOf-found}
 use Rattle.pricing.specs.Verdict.{accepted}
-use Rattle.book.specs.Record.{isAccepted}
+use Rattle.book.specs.Record.{isAccepted, linksKnown}
 use Rattle.interval_records.specs.Layout.{headLength}
 use Rattle.interval_records.specs.Record.{dueVerdict, headVerdict, recordPlace, regionAt}
-use Rattle.interval_rewriter.specs.AnyOrder.{stray, regionVerdict, recordsVerdict, recordOf}
+use Rattle.interval_rewriter.specs.AnyOrder.{stray, regionVerdict, regionsVerdict, recordsVerdict, recordOf}
 use Rattle.interval_rewriter.proofs.Counting.{found}
-use Rattle.interval_records.proofs.Wholes.{Due, due-accepted, accepted-due, all-accepted, accepted-all}
+use Rattle.interval_records.proofs.Wholes.{Due, LinkDue, due-accepted, accepted-due, link-is, is-link, all-accepted, accepted-all}
 use Rattle.interval_records.proofs.Heads.{Ordered, head-is, is-head}
 
 -- the first number that passes, where one does, passes
@@ -54,54 +54,88 @@ module _ (R M : ℕ) (bytes : List ℕ) (first k : ℕ) where
   unfolding regionVerdict
   is-region d l n = rw (due-accepted 17 M (omega arith) bytes (recordPlace M first k) d, lt-ltb (regionAt M bytes first k) R l, n)
 
-module _ (R M : ℕ) (bytes : List ℕ) (at : ℕ) where
+-- the regions' records, from `first` on: R records of R different regions
+module _ (R M : ℕ) (bytes : List ℕ) (first : ℕ) where
   abbrev region : ℕ → ℕ
-  region k = regionAt M bytes (at + headLength) k
+  region k = regionAt M bytes first k
 
-  pub record Given : Type 0 where
-    pub head : Due 16 M bytes at
-    pub total : numberAt bytes (at + 11) 1 ≡ R
-    pub due : (k : ℕ) → k < R → Due 17 M bytes (recordPlace M (at + headLength) k)
+  pub record Named : Type 0 where
+    pub due : (k : ℕ) → k < R → Due 17 M bytes (recordPlace M first k)
     pub below : (k : ℕ) → k < R → region k < R
     pub new : (k : ℕ) → k < R → anyBelow k (λ j. eqb (region j) (region k)) ≡ false
 
-  pub given-is : isAccepted (recordsVerdict R M bytes at) ≡ true → Given
+  pub named-is : isAccepted (regionsVerdict R M bytes first) ≡ true → Named
+  named-is e =
+      let r : (k : ℕ) → k < R → Due 17 M bytes (recordPlace M first k) × (region k < R) × (anyBelow k (λ j. eqb (region j) (region k)) ≡ false) = λ k l. region-is R M bytes first k (accepted-all R 0 (regionVerdict R M bytes first) e k (omega arith) (omega arith)) in
+      record { due = λ k l. r k l .0; below = λ k l. r k l .1; new = λ k l. r k l .2 }
+
+  is-named : Named → regionsVerdict R M bytes first ≡ accepted
+  is-named g = all-accepted R 0 (regionVerdict R M bytes first) (λ k a l. is-region R M bytes first k (g .due k (omega arith)) (g .below k (omega arith)) (g .new k (omega arith)))
+
+  -- each region's record
+  module _ (g : Named) (r : ℕ) (h : r < R) where
+    pub record-below : recordOf R M bytes first r < R
+    record-below = found R region (g .below) (g .new) r h
+
+    pub record-region : region (recordOf R M bytes first r) ≡ r
+    record-region = eqb-true _ _ (first-passes R (λ k. eqb (region k) r) record-below)
+
+-- all records
+pub record Given (linked : Bool) (R M : ℕ) (bytes : List ℕ) (at : ℕ) : Type 0 where
+  pub head : Due 16 M bytes at
+  pub total : numberAt bytes (at + 11) 1 ≡ R
+  pub named : Named R M bytes (at + headLength)
+  pub link : linked ≡ true → LinkDue bytes (recordPlace M (at + headLength) R)
+
+module _ (linked : Bool) (known : linked ≡ true → linksKnown ≡ true) (R M : ℕ) (bytes : List ℕ) (at : ℕ) where
+  abbrev place : ℕ
+  place = recordPlace M (at + headLength) R
+
+  pub regions-passed : isAccepted (recordsVerdict linked R M bytes at) ≡ true → isAccepted (regionsVerdict R M bytes (at + headLength)) ≡ true
+  unfolding recordsVerdict
+  regions-passed e =
+      by-test (isAccepted (headVerdict R M bytes at))
+      (λ a. by-test (isAccepted (regionsVerdict R M bytes (at + headLength))) (λ b. b)
+      (λ b. never (isAccepted (regionsVerdict R M bytes (at + headLength))) (rw (a, b) at e) b))
+      (λ a. never (isAccepted (headVerdict R M bytes at)) (rw a at e) a)
+
+  pub given-is : isAccepted (recordsVerdict linked R M bytes at) ≡ true → Given linked R M bytes at
   unfolding recordsVerdict
   given-is e =
       by-test (isAccepted (headVerdict R M bytes at))
-      (λ a. let h = head-is R M bytes at a in
-      let r : (k : ℕ) → k < R → Due 17 M bytes (recordPlace M (at + headLength) k) × (region k < R) × (anyBelow k (λ j. eqb (region j) (region k)) ≡ false) = λ k l. region-is R M bytes (at + headLength) k (accepted-all R 0 (regionVerdict R M bytes (at + headLength)) (rw a at e) k (omega arith) (omega arith)) in
-      record { head = h .0; total = h .1; due = λ k l. r k l .0; below = λ k l. r k l .1; new = λ k l. r k l .2 })
+      (λ a. by-test (isAccepted (regionsVerdict R M bytes (at + headLength)))
+      (λ b. let h = head-is R M bytes at a in
+      record { head = h .0; total = h .1; named = named-is R M bytes (at + headLength) b; link = link-is linked known M bytes place (rw (a, b) at e) })
+      (λ b. never (isAccepted (regionsVerdict R M bytes (at + headLength))) (rw (a, b) at e) b))
       (λ a. never (isAccepted (headVerdict R M bytes at)) (rw a at e) a)
 
-  pub is-given : Given → recordsVerdict R M bytes at ≡ accepted
+  pub is-given : Given linked R M bytes at → recordsVerdict linked R M bytes at ≡ accepted
   unfolding recordsVerdict
   is-given g =
-      rw (is-head R M bytes at (g .head) (g .total))
-      (all-accepted R 0 (regionVerdict R M bytes (at + headLength)) (λ k a l. is-region R M bytes (at + headLength) k (g .due k (omega arith)) (g .below k (omega arith)) (g .new k (omega arith))))
+      rw (is-head R M bytes at (g .head) (g .total), is-named R M bytes (at + headLength) (g .named))
+      (is-link linked known M bytes place (g .link))
 
-  -- each region's record
-  module _ (g : Given) (r : ℕ) (h : r < R) where
-    pub record-below : recordOf R M bytes (at + headLength) r < R
-    record-below = found R region (g .below) (g .new) r h
+-- records in number order are records in some order, and region r's is record r
+module _ (linked : Bool) (R M : ℕ) (bytes : List ℕ) (at : ℕ) (o : Ordered linked R M bytes at) where
+  abbrev ranked : ℕ → ℕ
+  ranked k = regionAt M bytes (at + headLength) k
 
-    pub record-region : region (recordOf R M bytes (at + headLength) r) ≡ r
-    record-region = eqb-true _ _ (first-passes R (λ k. eqb (region k) r) record-below)
-
-  -- records in number order are records in some order, and region r's is record r
-  pub ordered-given : Ordered R M bytes at → Given
-  ordered-given o = record {
+  pub ordered-given : Given linked R M bytes at
+  ordered-given = record {
     head = o .head;
     total = o .total;
-    due = o .due;
-    below = λ k h. omega (arith, o .region k h);
-    new = λ k h. by-test (anyBelow k (λ j. eqb (region j) (region k)))
-        (λ a. let x = any-at k (λ j. eqb (region j) (region k)) a in
-        let y : region (x .0) ≡ region k = eqb-true _ _ (x .2) in
-        absurd (omega (arith, o .region k h, o .region (x .0) (omega (arith, x .1)), x .1)))
-        (λ a. a);
+    named = record {
+      due = o .due;
+      below = λ k h. omega (arith, o .region k h);
+      new = λ k h. by-test (anyBelow k (λ j. eqb (ranked j) (ranked k)))
+          (λ a. let x = any-at k (λ j. eqb (ranked j) (ranked k)) a in
+          let y : ranked (x .0) ≡ ranked k = eqb-true _ _ (x .2) in
+          absurd (omega (arith, o .region k h, o .region (x .0) (omega (arith, x .1)), x .1)))
+          (λ a. a);
+    };
+    link = o .link;
   }
 
-  pub record-same : Ordered R M bytes at → (r : ℕ) → r < R → recordOf R M bytes (at + headLength) r ≡ r
-  record-same o r h =
-      firstOf-found R r (λ k. eqb (region k) r) h (λ k l. ne-eqb (region k) r (λ e. omega (arith, o .region k (omega arith)))) (eq-eqb (region r) r (o .region r h))
+  pub record-same : (r : ℕ) → r < R → recordOf R M bytes (at + headLength) r ≡ r
+  record-same r h =
+      firstOf-found R r (λ k. eqb (ranked k) r) h (λ k l. ne-eqb (ranked k) r (λ e. omega (arith, o .region k (omega arith)))) (eq-eqb (ranked r) r (o .region r h))

@@ -8,8 +8,8 @@ use Rattle.laws.specs.Lists.{anyBelow}
 use Rattle.pricing.specs.Verdict.{Verdict, accepted, refused}
 use Rattle.book.specs.Record.{isAccepted}
 use Rattle.interval_records.specs.Layout.{headLength}
-use Rattle.interval_records.specs.Record.{dueVerdict, headVerdict, recordPlace, regionAt, firstRefusal}
-use Rattle.interval_rewriter.specs.AnyOrder.{stray, regionVerdict, recordsVerdict}
+use Rattle.interval_records.specs.Record.{dueVerdict, linkVerdict, headVerdict, recordPlace, regionAt}
+use Rattle.interval_rewriter.specs.AnyOrder.{stray, regionVerdict, regionsVerdict, recordsVerdict}
 
 -- ---- a region's record: its own refusals, then 42
 module _ (regions markets : ℕ) (bytes : List ℕ) (first k : ℕ) where
@@ -35,14 +35,22 @@ module _ (regions markets : ℕ) (bytes : List ℕ) (first k : ℕ) where
       → (not (ltb region regions) || given) ≡ stray regions markets bytes first k
   stray-by region given r g = rw (g, r) refl
 
--- ---- the head, then the records
-module _ (regions markets : ℕ) (bytes : List ℕ) (at : ℕ) where
+-- ---- the head, then the records, then the additional link's
+module _ (linked : Bool) (regions markets : ℕ) (bytes : List ℕ) (at : ℕ) where
   pub records-head : isAccepted (headVerdict regions markets bytes at) ≡ false
-      → headVerdict regions markets bytes at ≡ recordsVerdict regions markets bytes at
+      → headVerdict regions markets bytes at ≡ recordsVerdict linked regions markets bytes at
   unfolding recordsVerdict
   records-head a = rw a refl
 
-  pub records-rest : isAccepted (headVerdict regions markets bytes at) ≡ true
-      → firstRefusal regions 0 (regionVerdict regions markets bytes (at + headLength)) ≡ recordsVerdict regions markets bytes at
-  unfolding recordsVerdict
-  records-rest a = rw a refl
+  module _ (a : isAccepted (headVerdict regions markets bytes at) ≡ true) where
+    abbrev others : Verdict
+    others = regionsVerdict regions markets bytes (at + headLength)
+
+    pub records-region : isAccepted others ≡ false → others ≡ recordsVerdict linked regions markets bytes at
+    unfolding recordsVerdict
+    records-region r = rw (a, r) refl
+
+    pub records-rest : isAccepted others ≡ true
+        → linkVerdict linked markets bytes (recordPlace markets (at + headLength) regions) ≡ recordsVerdict linked regions markets bytes at
+    unfolding recordsVerdict
+    records-rest r = rw (a, r) refl

@@ -8,7 +8,7 @@ use Rattle.laws.specs.Lists.{anyBelow, firstOf}
 use Rattle.pricing.specs.Verdict.{Verdict, accepted, refused}
 use Rattle.book.specs.Record.{isAccepted}
 use Rattle.interval_records.specs.Layout.{headLength}
-use Rattle.interval_records.specs.Record.{dueVerdict, headVerdict, recordPlace, regionAt, firstRefusal}
+use Rattle.interval_records.specs.Record.{dueVerdict, linkVerdict, headVerdict, recordPlace, regionAt, firstRefusal}
 
 -- 42 "a region from R up or given before"
 abbrev pub stray : ℕ → ℕ → List ℕ → ℕ → ℕ → Bool
@@ -24,11 +24,18 @@ regionVerdict regions markets bytes first k =
     (pick (stray regions markets bytes first k) (refused 42)
     accepted)
 
--- the head, then record after record, "per record 40, 41, 42"
-unfoldable pub recordsVerdict : ℕ → ℕ → List ℕ → ℕ → Verdict
-recordsVerdict regions markets bytes at =
-    pick (not (isAccepted (headVerdict regions markets bytes at))) (headVerdict regions markets bytes at)
-    (firstRefusal regions 0 (regionVerdict regions markets bytes (at + headLength)))
+-- record after record, "per record 40, 41, 42"
+abbrev pub regionsVerdict : ℕ → ℕ → List ℕ → ℕ → Verdict
+regionsVerdict regions markets bytes first = firstRefusal regions 0 (regionVerdict regions markets bytes first)
+
+-- the head, the regions, and the additional link's record "after the last region"
+unfoldable pub recordsVerdict : Bool → ℕ → ℕ → List ℕ → ℕ → Verdict
+recordsVerdict linked regions markets bytes at =
+    let head = headVerdict regions markets bytes at in
+    let others = regionsVerdict regions markets bytes (at + headLength) in
+    pick (not (isAccepted head)) head
+    (pick (not (isAccepted others)) others
+    (linkVerdict linked markets bytes (recordPlace markets (at + headLength) regions)))
 
 -- the record of a region, among the R that follow the head
 abbrev pub recordOf : ℕ → ℕ → List ℕ → ℕ → ℕ → ℕ

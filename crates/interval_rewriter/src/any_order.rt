@@ -5,6 +5,7 @@ use codec::get_u8;
 use interval_records::layout::region_length;
 use interval_records::record::due_verdict;
 use interval_records::record::head_verdict;
+use interval_records::record::link_verdict;
 ghost use mathlib.Core.Path.{_≡_};
 ghost use Prim.Native.Nat.{_+_, _*_, _≤_};
 ghost use lib.Dec.{eqb};
@@ -12,8 +13,8 @@ ghost use lib.ListN.{length};
 ghost use Rattle.laws.specs.Lists.{anyBelow};
 ghost use Rattle.book.specs.Record.{marketsOf, verdict};
 ghost use Rattle.interval_records.specs.Layout.{regionLength};
-ghost use Rattle.interval_records.specs.Record.{regionAt, firstRefusal};
-ghost use Rattle.interval_rewriter.specs.AnyOrder.{regionVerdict, recordsVerdict, recordOf};
+ghost use Rattle.interval_records.specs.Record.{regionAt};
+ghost use Rattle.interval_rewriter.specs.AnyOrder.{regionVerdict, regionsVerdict, recordsVerdict, recordOf};
 
 // Whether one of the first `k` records from `first` on is of this region.
 fn given_before(markets: usize, bytes: &[u8], first: usize, k: usize, region: u8) -> bool
@@ -51,7 +52,7 @@ fn region_verdict(regions: u8, services: u8, bytes: &[u8], first: usize, k: usiz
 // The first refusal of the region records from `first` on.
 fn regions_verdict(regions: u8, services: u8, bytes: &[u8], first: usize) -> Answer
     requires { ⌜ first ≤ length (now bytes) ⌝ }
-    ensures { λ r. ⌜ verdict r ≡ firstRefusal regions 0 (regionVerdict regions (marketsOf services) (now (bytes .entry)) first) ⌝ }
+    ensures { λ r. ⌜ verdict r ≡ regionsVerdict regions (marketsOf services) (now (bytes .entry)) first ⌝ }
 {
     let mut k: usize = 0;
     while k < regions as usize {
@@ -64,15 +65,26 @@ fn regions_verdict(regions: u8, services: u8, bytes: &[u8], first: usize) -> Ans
     Answer::Accepted
 }
 
-// 40 to 42 of an interval's records, its regions in any order.
-pub(crate) fn records_verdict(regions: u8, services: u8, bytes: &[u8], at: usize) -> Answer
-    ensures { λ r. ⌜ verdict r ≡ recordsVerdict regions (marketsOf services) (now (bytes .entry)) at ⌝ }
+// 40 to 42 of an interval's records, its regions in any order, the additional link's behind them.
+pub(crate) fn records_verdict(
+    linked: bool,
+    regions: u8,
+    services: u8,
+    bytes: &[u8],
+    at: usize,
+) -> Answer
+    ensures { λ r. ⌜ verdict r ≡ recordsVerdict linked regions (marketsOf services) (now (bytes .entry)) at ⌝ }
 {
     let answer = head_verdict(regions, services, bytes, at);
     if let Answer::Refused(_) = answer {
         return answer;
     }
-    regions_verdict(regions, services, bytes, at + 12)
+    let next = regions_verdict(regions, services, bytes, at + 12);
+    if let Answer::Refused(_) = next {
+        return next;
+    }
+    let place = at + 12 + regions as usize * region_length(services);
+    link_verdict(linked, services, bytes, place)
 }
 
 // Which of the records from `first` on is a region's, or R.

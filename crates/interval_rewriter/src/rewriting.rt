@@ -4,8 +4,10 @@ use crate::any_order::records_verdict;
 use book::record::Answer;
 use book::record::Book;
 use book::record::Refusal;
+use book::record::has_link;
 use book::validity::valid;
 use interval_records::layout::interval_length;
+use interval_records::layout::link_length;
 ghost use mathlib.Core.Path.{_≡_};
 ghost use mathlib.Core.Bool.{true};
 ghost use Prim.Native.Nat.{_+_, _*_, _≤_};
@@ -14,7 +16,7 @@ ghost use lib.Seq.{sets};
 ghost use Rattle.laws.specs.Lists.{joined};
 ghost use Rattle.book.specs.Record.{verdict, isAccepted};
 ghost use Rattle.interval_records.specs.Layout.{headLength, regionLength};
-ghost use Rattle.interval_rewriter.specs.AnyOrder.{recordsVerdict};
+ghost use Rattle.interval_rewriter.specs.AnyOrder.{regionsVerdict};
 ghost use Rattle.interval_rewriter.specs.Rewriting.{rewriteVerdict, recordBytes, outcome, rewriteInterval};
 
 // The place after the interval that was taken, or the first refusal.
@@ -42,7 +44,8 @@ fn copy(bytes: &[u8], from: usize, n: usize, buffer: &mut [u8], to: usize)
 
 // The records of all regions, in number order, behind the head.
 fn copy_records(regions: usize, markets: usize, bytes: &[u8], at: usize, buffer: &mut [u8])
-    requires { ⌜ (markets ≤ 256) × (isAccepted (recordsVerdict regions markets (now bytes) at) ≡ true) ⌝ }
+    requires { ⌜ (markets ≤ 256) × (at + headLength ≤ length (now bytes)) ⌝ }
+    requires { ⌜ isAccepted (regionsVerdict regions markets (now bytes) (at + headLength)) ≡ true ⌝ }
     requires { ⌜ headLength + regions * regionLength markets ≤ length (now buffer) ⌝ }
     ensures { λ _. ⌜ (let records = joined regions 0 (recordBytes regions markets (now (bytes .entry)) (at + headLength)) in
         now (buffer .exit) ≡ sets (now (buffer .entry)) headLength records) ⌝ }
@@ -64,10 +67,11 @@ fn rewrite_verdict(book: Book, bytes: &[u8], at: usize, room: usize) -> Answer
     if !valid(book) {
         return Answer::Refused(Refusal::Invalid);
     }
-    if room < interval_length(book.regions, book.services) {
+    let linked = has_link(book);
+    if room < interval_length(linked, book.regions, book.services) {
         return Answer::Refused(Refusal::Buffer);
     }
-    records_verdict(book.regions, book.services, bytes, at)
+    records_verdict(linked, book.regions, book.services, bytes, at)
 }
 
 // Writes the interval at a place as the first bytes of the buffer, its regions in number order, and hands the book back; the bytes after
@@ -85,8 +89,11 @@ pub fn rewrite_interval(book: Book, bytes: &[u8], at: usize, buffer: &mut [u8]) 
     let markets = book.services as usize + 1;
     copy(bytes, at, 12, buffer, 0);
     copy_records(book.regions as usize, markets, bytes, at, buffer);
+    let records = interval_length(false, book.regions, book.services);
+    let last = link_length(has_link(book));
+    copy(bytes, at + records, last, buffer, records);
     Rewritten {
         book,
-        place: Place::After(at + interval_length(book.regions, book.services)),
+        place: Place::After(at + records + last),
     }
 }

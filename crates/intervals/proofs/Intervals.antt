@@ -77,16 +77,18 @@ bytes-length linked R M v =
       last-length linked R v,
     )
 
+-- the additional link's record, or nothing
+pub last-bytes : (linked : Bool) (R : ℕ) (v : Interval) (bytes : List ℕ) → Bytes bytes → (p : ℕ) → p + pick linked linkLength 0 ≤ length bytes → (linked ≡ true → LinkSays R bytes p v)
+    → pick linked (linkRecord R v) [] ≡ take (pick linked linkLength 0) (drop p bytes)
+last-bytes true R v bytes b p h s = link-bytes bytes b p R v h (s refl)
+last-bytes false R v bytes b p h s = refl
+
 module _ (linked : Bool) (R M : ℕ) (small : R ≤ 8) (few : M ≤ 11) (v : Interval) where
   abbrev rec : ℕ → List ℕ
   rec = regionRecord M v
 
   -- 4. the bytes that say an interval are its bytes
   module _ (bytes : List ℕ) (b : Bytes bytes) (at : ℕ) where
-    last-bytes : (t : Bool) (p : ℕ) → p + pick t linkLength 0 ≤ length bytes → (t ≡ true → LinkSays R bytes p v) → pick t (linkRecord R v) [] ≡ take (pick t linkLength 0) (drop p bytes)
-    last-bytes true p h s = link-bytes bytes b p R v h (s refl)
-    last-bytes false p h s = refl
-
     pub says-bytes : Says linked R M bytes at v → intervalBytes linked R M v ≡ take (intervalLength linked R M) (drop at bytes)
     unfolding intervalBytes
     says-bytes s =
@@ -94,7 +96,7 @@ module _ (linked : Bool) (R M : ℕ) (small : R ≤ 8) (few : M ≤ 11) (v : Int
         let t = pick linked linkLength 0 in
         let z : at + 12 + 0 * regionLength M ≡ at + 12 = omega arith in
         let y : 12 + n + t ≡ 12 + (n + t) = omega arith in
-        let e = last-bytes linked (recordPlace M (at + 12) R) (omega (arith, s .room)) (s .link) in
+        let e = last-bytes linked R v bytes b (recordPlace M (at + 12) R) (omega (arith, s .room)) (s .link) in
         let j = joined-bytes rec (regionLength M) (at + 12) bytes R 0 (λ k p q. region-bytes bytes b (recordPlace M (at + 12) k) M v k (place-room k (omega arith) (s .room)) (s .regions k (omega arith))) in
         rw (head-bytes bytes b at R v (omega (arith, s .room)) (s .head), j, e, y, take-add 12 (n + t) (drop at bytes), drop-drop 12 at bytes, take-add n t (drop (at + 12) bytes), drop-drop n (at + 12) bytes, z)
       where

@@ -2,13 +2,15 @@
 use mathlib.Core.Path.{_≡_, refl, sym, ap, _∙_}
 use mathlib.Core.Bool.{Bool, true, false}
 use mathlib.Core.List.{List, [], _∷_, _++_, append-nil}
+use mathlib.Core.Logic.{⊎-elim}
 use Prim.Native.Nat.{ℕ, suc, _+_, _-_, _<_, _≤_}
 use native.Mathlib.Omega.{arith}
-use lib.ListN.{length, getD, set, drop, drop-of-length-le, length-append}
+use lib.ListN.{length, getD, set, drop, drop-of-length-le, length-append, List·getD-eq-default}
 use lib.Seq.{drop-cons, set-at}
 use Rattle.laws.specs.Base.{pick}
 use Rattle.laws.specs.Lists.{tabulate}
 use Rattle.laws.proofs.Lists.{length-run, getD-tabulate, tabulate-next}
+use Rattle.laws.proofs.Tests.{by-test, lt-or-ge}
 use Rattle.laws.proofs.Joined.{tabulate-list, at-left, at-right}
 
 -- there is a last place exactly where there is the link
@@ -42,6 +44,24 @@ module _ {A : Type 0} (f : ℕ → A) (R : ℕ) (x : A) where
       let n : drop (suc R) d ≡ [] = drop-of-length-le d k in
       rw (g, e, drop-cons d R x (omega (arith, h)), set-at (tabulate R f) (getD d R x) (drop (suc R) d) x R (length-run f R 0), n)
   last-done false d l m h e g = let k : length d ≤ R = omega (arith, h) in rw (g, e, drop-of-length-le d k)
+
+-- what holds of every region's, of the last and of the default holds at every place
+pub last-all : {A : Type 0} (P : A → Type 0) (linked : Bool) (f : ℕ → A) (R : ℕ) (x d : A) → P d → ((r : ℕ) → r < R → P (f r)) → (linked ≡ true → P x)
+    → (r : ℕ) → P (getD (tabulate R f ++ pick linked (x ∷ []) []) r d)
+last-all P linked f R x d z h k r =
+    ⊎-elim (λ (l : r < R). rw (last-region f R x linked r d l) (h r l)) (λ (l : R ≤ r). by-test linked
+    (λ t. ⊎-elim (λ (m : r < R + 1). let e : r ≡ R = omega arith in rw (e, last-link f R x linked d t) (k t))
+    (λ (m : R + 1 ≤ r). past (omega (arith, last-length f R x linked, most t))) (lt-or-ge r (R + 1)))
+    (λ t. past (omega (arith, last-length f R x linked, least t)))) (lt-or-ge r R)
+  where
+    most : linked ≡ true → pick linked (R + 1) R ≡ R + 1
+    most t = rw t refl
+
+    least : linked ≡ false → pick linked (R + 1) R ≡ R
+    least t = rw t refl
+
+    past : length (tabulate R f ++ pick linked (x ∷ []) []) ≤ r → P (getD (tabulate R f ++ pick linked (x ∷ []) []) r d)
+    past q = rw (List·getD-eq-default (tabulate R f ++ pick linked (x ∷ []) []) d {n = r} q) z
 
 pub last-same : {A : Type 0} (linked : Bool) (x y : A) → (linked ≡ true → x ≡ y) → pick linked (x ∷ []) [] ≡ pick linked (y ∷ []) []
 last-same {A = A} true x y e = ap (λ (z : A). z ∷ []) (e refl)

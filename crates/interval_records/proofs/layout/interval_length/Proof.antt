@@ -3,8 +3,9 @@ use mathlib.Core.Path.{_≡_, refl}
 use Prim.Native.Nat.{_*_, _≤_}
 use native.Mathlib.Nat.{mul-le-mul}
 use native.Mathlib.Omega.{arith}
+use Rattle.laws.specs.Base.{pick}
 use Rattle.book.specs.Record.{marketsOf}
-use Rattle.interval_records.specs.Layout.{regionLength}
+use Rattle.interval_records.specs.Layout.{regionLength, linkLength}
 use borrow.Author.Needs.{needs}
 use Rattle.interval_records.proofs.layout.interval_length.Statement.{statement}
 use Rattle.interval_records.proofs.layout.interval_length.Tie as tie
@@ -18,27 +19,26 @@ small c =
 region-length-requires : tie.Need-region-length-requires
 region-length-requires c κs = search needs
 
-mul-size : tie.Need-mul-size
-mul-size c = omega (arith, small c)
-
-add-size : tie.Need-add-size
-add-size c = omega (arith, small c)
+mul-result : tie.Need-mul-result
+mul-result c = omega (arith, small c)
 
 add-result : tie.Need-add-result
-add-result c = omega (arith, small (c .before))
+add-result c = omega (arith, small c)
+
+link-length-requires : tie.Need-link-length-requires
+link-length-requires c κs = search needs
+
+add-result-2 : tie.Need-add-result-2
+add-result-2 c = omega (arith, small (c .before), c .link-length .ensures .1)
 
 returns : tie.Need-returns
 returns c =
     let p = c .before in
     let e : p .region-length .result ≡ regionLength (marketsOf (p .before .args .services)) = p .region-length .ensures .0 in
-    (rw (e, c .if1 .taken) refl, omega (arith, small p))
-
-returns-2 : tie.Need-returns-2
-returns-2 c =
-    let p = c .before in
-    let e : p .region-length .result ≡ regionLength (marketsOf (p .before .args .services)) = p .region-length .ensures .0 in
-    (rw (e, c .if1 .left) (omega arith), omega (arith, small p))
+    let k : c .link-length .result ≡ pick (p .before .args .linked) linkLength 0 = c .link-length .ensures .0 in
+    (rw (e, k) refl, omega (arith, small p, c .link-length .ensures .1))
 
 pub interval-length-spec : {M : Type 1} → statement M
 interval-length-spec =
-    tie.close (tie.spec region-length-requires mul-size add-size add-result returns returns-2)
+    tie.close
+    (tie.spec region-length-requires mul-result add-result link-length-requires add-result-2 returns)

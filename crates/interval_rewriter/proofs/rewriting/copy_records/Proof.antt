@@ -10,7 +10,7 @@ use Rattle.interval_records.proofs.Verdicts.{room-at}
 use Rattle.interval_writer.proofs.Writes.{regions-none, regions-step, regions-done}
 use Rattle.interval_rewriter.specs.AnyOrder.{recordOf}
 use Rattle.interval_rewriter.specs.Rewriting.{recordBytes}
-use Rattle.interval_rewriter.proofs.AnyOrder.{Given, given-is, record-below}
+use Rattle.interval_rewriter.proofs.AnyOrder.{Named, named-is, record-below}
 use Rattle.interval_rewriter.proofs.Rewrites.{records-room, record-length}
 use Rattle.interval_rewriter.proofs.rewriting.copy_records.Statement.{statement}
 use Rattle.interval_rewriter.proofs.rewriting.copy_records.Tie as tie
@@ -24,12 +24,12 @@ Inv-loop regions markets bytes at buffer₀ first size r₀ buffer r =
 abbrev μ-loop : tie.MeasureT-loop
 μ-loop regions markets bytes at buffer₀ first size r₀ buffer r = regions - r
 
-given : (s : tie.Start Inv-loop μ-loop) → let a = s .args in Given (a .regions) (a .markets) (a .bytes .now) (a .at)
-given s = let a = s .args in given-is (a .regions) (a .markets) (a .bytes .now) (a .at) (s .pre .0 .1)
+given : (s : tie.Start Inv-loop μ-loop) → let a = s .args in Named (a .regions) (a .markets) (a .bytes .now) (a .at + headLength)
+given s = let a = s .args in named-is (a .regions) (a .markets) (a .bytes .now) (a .at + headLength) (s .pre .1 .0)
 
 -- the room of all records
 room : (s : tie.Start Inv-loop μ-loop) → let a = s .args in a .at + headLength + a .regions * regionLength (a .markets) ≤ length (a .bytes .now)
-room s = let a = s .args in records-room (a .regions) (a .markets) (a .bytes .now) (a .at) (given s)
+room s = let a = s .args in records-room (a .regions) (a .markets) (a .bytes .now) (a .at + headLength) (given s) (s .pre .0 .1)
 
 add-first : tie.Need-add-first Inv-loop μ-loop
 add-first c = omega (arith, room (c .before .before))
@@ -59,7 +59,7 @@ module _ (c : tie.After-record-of Inv-loop μ-loop) where
   there j h =
       let a = start .args in
       let size = regionLength (a .markets) in
-      let k = room-at 12 size (a .regions) j _ h (start .pre .1) in
+      let k = room-at 12 size (a .regions) j _ h (start .pre .1 .1) in
       (room-at (a .at + headLength) size (a .regions) j _ h (room start), omega (arith, k, c .before .before .loop .inv .1))
 
   found : c .record-of .result < start .args .regions
@@ -67,7 +67,7 @@ module _ (c : tie.After-record-of Inv-loop μ-loop) where
       let a = start .args in
       let h : region < a .regions = omega arith in
       let q : c .record-of .result ≡ recordOf (a .regions) (a .markets) (a .bytes .now) (a .at + headLength) region = c .record-of .ensures in
-      omega (arith, q, record-below (a .regions) (a .markets) (a .bytes .now) (a .at) (given start) region h)
+      omega (arith, q, record-below (a .regions) (a .markets) (a .bytes .now) (a .at + headLength) (given start) region h)
 
   own : let a = start .args in let size = regionLength (a .markets) in
       (a .at + headLength + region * size + size ≤ length (a .bytes .now)) × (12 + region * size + size ≤ length (c .before .before .loop .buffer))
@@ -109,7 +109,7 @@ loop-again c =
     let h : q .r < a .regions = omega arith in
     let n = p .copy .last .1 .1 .1 .0 in
     let w : n ≡ sets (q .buffer) (12 + q .r * size) (f (q .r)) = rw (← k .record-of .ensures) (p .copy .ensures) in
-    let g : length (f (q .r)) ≡ size = record-length (a .regions) (a .markets) (a .bytes .now) (a .at) (given s) (q .r) h in (
+    let g : length (f (q .r)) ≡ size = record-length (a .regions) (a .markets) (a .bytes .now) (a .at + headLength) (given s) (q .r) h in (
       omega arith,
       p .copy .kept .1 .1 .1 .0 ∙ q .inv .1,
       rw w (regions-step f size 12 (q .buffer) _ (a .regions) (q .r) h g (q .inv .2)),
