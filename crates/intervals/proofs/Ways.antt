@@ -46,14 +46,6 @@ module _ (linked : Bool) (known : linked ≡ true → linksKnown ≡ true) (R M 
   pub all-room : at + intervalLength linked R M ≤ length bytes
   all-room = whole-room linked R M bytes at records-room link-room
 
--- a book has a place of flows and factors for every region
-pub links-least : (b : Book) → b .regions ≤ linkCount b
-links-least b = least (hasLink b)
-  where
-    least : (t : Bool) → b .regions ≤ pick t (b .regions + 1) (b .regions)
-    least true = omega arith
-    least false = omega arith
-
 -- region r's prices end within R × M of them
 pub row-in : (r R M : ℕ) → r < R → r * M + M ≤ R * M
 row-in r R M h = omega (arith, mul-le-mul-right M h, suc-mul r M)

@@ -15,9 +15,9 @@ use Rattle.laws.proofs.Lists.{length-run, getD-tabulate, firstOf-none}
 use Rattle.laws.proofs.Integers.{le-test, dif-parts}
 use Rattle.pricing.specs.Holding.{isEnergy, inRange}
 use Rattle.book.specs.declared.record.Book.{Book}
-use Rattle.book.specs.Record.{marketsOf, tableSize, ringSize}
+use Rattle.book.specs.Record.{marketsOf, tableSize, ringSize, linkCount}
 use Rattle.publishing.specs.Entry.{entryOf}
-use Rattle.entries.specs.Checking.{entryVerdict, lengthsOk, firstMark, firstPrice, firstFactor}
+use Rattle.entries.specs.Checking.{entryVerdict, lengthsOk, firstMark, firstPrice, hasFactor, firstFactor}
 use Rattle.entries.specs.Entering.{shapeOf}
 use Rattle.interval_records.specs.Layout.{Interval}
 use Rattle.drawing.specs.Drawing.{drawn, energyOf, priceOf, factorOf}
@@ -63,9 +63,9 @@ prices-in R M d = firstOf-none (R * M) _ (λ k h. rw (no-mark R (k / M), getD-ta
     price : ℕ → ℤ
     price q = priceOf (q % M) (d q)
 
-factors-in : (R : ℕ) (parents : List ℕ) (d : ℕ → ℕ) → firstFactor R parents (tabulate R (λ r. factorOf (d r))) ≡ R
-factors-in R parents d =
-    firstOf-none R _ (λ k h. rw (getD-tabulate (λ r. factorOf (d r)) R k 0 h, factor-in (d k)) (none (not (eqb (getD parents k 255) 255))))
+factors-in : (links R : ℕ) (parents : List ℕ) (d : ℕ → ℕ) → firstFactor links R parents (tabulate links (λ r. factorOf (d r))) ≡ links
+factors-in links R parents d =
+    firstOf-none links _ (λ k h. rw (getD-tabulate (λ r. factorOf (d r)) links k 0 h, factor-in (d k)) (none (hasFactor R parents k)))
   where
     none : (t : Bool) → (t && false) ≡ false
     none true = refl
@@ -90,10 +90,10 @@ module _ (b : Book) (s number kind : ℕ) where
   lengths-pass ring table schedule r c t =
       let p : length (v .prices) ≡ N = length-run _ N 0 in
       let m : length (v .marked) ≡ R = length-replicate {A = ℕ} R 0 in
-      let f : length (v .flows) ≡ R = length-run _ R 0 in
-      let x : length (v .factors) ≡ R = length-run _ R 0 in
+      let f : length (v .flows) ≡ linkCount b = length-run _ (linkCount b) 0 in
+      let x : length (v .factors) ≡ linkCount b = length-run _ (linkCount b) 0 in
       rw (r, c, t, p, m, f, x)
-      (rw (same (ringSize R (b .services) (b .window)), same N, same R, same (N * 2 * b .halves)) refl)
+      (rw (same (ringSize R (b .services) (b .window)), same N, same R, same (linkCount b), same (N * 2 * b .halves)) refl)
     where
       same : (n : ℕ) → eqb n n ≡ true
       same n = eq-eqb n n refl
@@ -102,7 +102,7 @@ pub made-passes : Made-passes
 made-passes b s number kind = record {
   marks = none-marked (b .regions);
   prices = prices-in (b .regions) (marketsOf (b .services)) (drawn s);
-  factors = factors-in (b .regions) (b .parents) (λ r. drawn s (tableSize (b .regions) (b .services) + 2 * r + 1));
+  factors = factors-in (linkCount b) (b .regions) (b .parents) (λ r. drawn s (tableSize (b .regions) (b .services) + 2 * r + 1));
 }
 
 pub made-enters : Made-enters
@@ -113,4 +113,4 @@ made-enters b s number kind ring table schedule a r c t e n k =
     let p = made-passes b s number kind in
     let l = lengths-pass b s number kind ring table schedule r c t in
     rw (a, l, lt-leb 10000000 (b .entries) e, eq-eqb number (b .entries) n, le-leb kind 1 k)
-    (rw (p .marks, p .prices, p .factors, le-ltb R R (omega arith), le-ltb N N (omega arith)) refl)
+    (rw (p .marks, p .prices, p .factors, le-ltb R R (omega arith), le-ltb N N (omega arith), le-ltb (linkCount b) (linkCount b) (omega arith)) refl)

@@ -7,7 +7,7 @@ use lib.IntN.{ℤ}
 use lib.ListN.{length}
 use Rattle.pricing.specs.Verdict.{accepted}
 use Rattle.book.specs.declared.record.Book.{Book}
-use Rattle.book.specs.Record.{marketsOf, tableSize, ringSize}
+use Rattle.book.specs.Record.{marketsOf, tableSize, ringSize, linkCount}
 use Rattle.book.specs.Validity.{valid}
 use Rattle.publishing.specs.Entry.{entryOf}
 use Rattle.entries.specs.Checking.{firstMark, firstPrice, firstFactor}
@@ -19,7 +19,7 @@ use Rattle.synthetic.specs.Synthetic.{made}
 pub record Passes (b : Book) (v : Interval) : Type 0 where
   pub marks : firstMark (b .regions) (v .marked) ≡ b .regions
   pub prices : firstPrice (b .regions) (marketsOf (b .services)) (v .prices) (v .marked) ≡ tableSize (b .regions) (b .services)
-  pub factors : firstFactor (b .regions) (b .parents) (v .factors) ≡ b .regions
+  pub factors : firstFactor (linkCount b) (b .regions) (b .parents) (v .factors) ≡ linkCount b
 
 -- "For every seed and size this must pass an entry's checks on prices, marks and factors": for every book and every number s, so for
 -- every seed of 32 bits

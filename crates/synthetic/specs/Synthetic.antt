@@ -17,7 +17,8 @@ use Rattle.synthetic.specs.declared.Draw.the-variants.{Made, Refused}
 use Rattle.synthetic.specs.declared.Synthetic.{Synthetic}
 use Rattle.drawing.specs.Drawing.{seedAfter, drawn, priceOf, flowOf, factorOf}
 
--- "An interval draws its R × M prices, then flow and factor for each region. .. Marks are 0; the caller gives book, number and day kind"
+-- "An interval draws its R × M prices, then flow and factor for each region. .. Marks are 0; the caller gives book, number and day kind",
+-- and of the additional link "A test load draws one more pair for it"
 abbrev pub made : Book → ℕ → ℕ → ℕ → Interval
 made b s number kind =
     let n = tableSize (b .regions) (b .services) in

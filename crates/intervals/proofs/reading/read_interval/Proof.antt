@@ -6,13 +6,13 @@ use Prim.Native.Nat.{ℕ, _+_, _*_, _≤_, _<_}
 use native.Mathlib.Omega.{arith}
 use lib.ListN.{length}
 use Rattle.laws.specs.Bytes.{numberAt}
-use Rattle.book.specs.Record.{marketsOf, tableSize, hasLink, linkCount, verdict, isAccepted}
+use Rattle.book.specs.Record.{marketsOf, tableSize, fromOf, hasLink, linkCount, verdict, isAccepted}
 use Rattle.interval_records.specs.Layout.{Interval, headLength, regionLength, intervalLength, lengthFor, intervalOf}
 use Rattle.interval_records.specs.InOrder.{orderedVerdict}
 use Rattle.intervals.proofs.Ways.{head-room, records-room, link-room, all-room, read-lent, lengths, markets-few, read-refused}
-use Rattle.book.proofs.Ways.{link-known}
+use Rattle.book.proofs.Ways.{link-known, links-least}
 use Rattle.intervals.proofs.Lasts.{last-there}
-use Rattle.intervals.proofs.Ways.{links-least, records-accepted, read-accepted}
+use Rattle.intervals.proofs.Ways.{records-accepted, read-accepted}
 use Rattle.intervals.proofs.reading.read_interval.Statement.{statement}
 use Rattle.intervals.proofs.reading.read_interval.Tie as tie
 
@@ -131,7 +131,7 @@ read-regions-requires c κs =
     let e = c .before .before .before .before .before .before in
     let b = e .before .before .before .before .before .before .before .before .before .before .args .book in
     let l = sizes e .0 in
-    let most = links-least b in
+    let most = links-least (b .regions) (fromOf b) in
     ((sizes e .1, room e .1), ((l .0, omega (arith, l .1)), (omega (arith, l .2, most), omega (arith, l .3, most))))
 
 -- where they stand: before the additional link is read
