@@ -19,7 +19,8 @@ ghost use lib.ListN.{length, getD};
 ghost use lib.Seq.{sets};
 ghost use Rattle.laws.specs.Lists.{tabulate};
 ghost use Rattle.laws.specs.Bytes.{numberAt, encode};
-ghost use Rattle.head.specs.Layout.{widths, kindOf, headSize, lengthOf, tailWidths, tail, firsts, seconds, values, frontOf, nextOf, isSecond, endIn, headFrom};
+ghost use Rattle.head.specs.Layout.{widths, firsts, seconds, values, nextOf, headFrom};
+ghost use Rattle.head.specs.Layout.{kindOf, headSize, lengthOf, tailWidths, tail, frontOf, isSecond, endIn};
 
 // Where the prices of an image start, of kind 2 if `second`.
 pub fn head_size(second: bool) -> usize

@@ -20,7 +20,7 @@ use Rattle.book.specs.declared.record.Book.{Book}
 use Rattle.book.specs.Record.{none, marketsOf, ringSize, isLinked, fromOf, toOf}
 use Rattle.book.proofs.Validities.{Valid}
 use Rattle.head.specs.Counted.{marketCount, countAt, inOrder, counted}
-use Rattle.head.specs.Layout.{widths, kindOf, headSize, lengthOf, values, tailWidths, tail, tailOf, imageOf, isSecond, endIn, fromIn, toIn, bookOf, headFrom}
+use Rattle.head.specs.Layout.{widths, kindOf, headSize, lengthOf, values, tailWidths, tail, tailOf, imageOf, isSecond, fromIn, toIn, bookOf, headFrom}
 use Rattle.image.specs.Storing.{pricesOk, kindTells}
 use Rattle.image.specs.Loading.{bookFrom, ringFrom}
 use Rattle.image.proofs.Readings.{before, start, pricesAt, goodAt, windows-whole, sums-whole, bytes-whole, all-good-whole}

@@ -19,7 +19,7 @@ use Rattle.book.specs.declared.record.Answer.{Answer}
 use Rattle.book.specs.declared.record.Answer.the-variants.{Accepted, Refused}
 use Rattle.book.specs.Record.{closed, verdictOf, verdict, isAccepted}
 use Rattle.book.specs.Validity.{valid}
-use Rattle.book.proofs.Validities.{Valid, valid-is, is-valid}
+use Rattle.book.proofs.Validities.{Valid, is-valid}
 use Rattle.book.proofs.Ways.{is-accepted, is-refused}
 use Rattle.image.specs.declared.storing.Image.the-variants as image
 use Rattle.head.specs.Counted.{marketCount, counted, howMany}

@@ -31,7 +31,8 @@ ghost use Rattle.book.specs.Record.{verdict};
 ghost use Rattle.book.specs.Validity.{valid};
 ghost use Rattle.head.specs.Counted.{marketCount, howMany};
 ghost use Rattle.head.specs.Layout.{isSecond, headFrom};
-ghost use Rattle.image.specs.Loading.{lacksTail, kindOk, tailOk, endsSaid, fieldsOk, headVerdict, badFrom, ringOf, loadVerdict, checked, loadedWindow, windowsFrom, sumsFrom, outcome, loaded};
+ghost use Rattle.image.specs.Loading.{lacksTail, kindOk, tailOk, endsSaid, fieldsOk, headVerdict, badFrom};
+ghost use Rattle.image.specs.Loading.{ringOf, loadVerdict, checked, loadedWindow, windowsFrom, sumsFrom, outcome, loaded};
 
 pub struct Loaded {
     pub book: Book,
@@ -168,7 +169,7 @@ fn first_bad(bytes: &[u8], book: Book, from: usize) -> usize
     k
 }
 
-// The second kind of image is prepared and not known yet; with this it is.
+// Kind 2 is prepared and not known yet: no book has the link that it is for.
 const LINKS_KNOWN: bool = false;
 
 // Whether an image of kind 2 ends before its prices.
@@ -206,7 +207,7 @@ fn ends_said(bytes: &[u8]) -> bool
     (end_in(bytes, 148) == 255) & (end_in(bytes, 149) == 255)
 }
 
-// 26.
+// 26, of an image whose head says `book`.
 fn fields_ok(bytes: &[u8], book: Book) -> bool
     requires { ⌜ (148 ≤ length (now bytes)) × (isSecond (now bytes) ≡ true → 156 ≤ length (now bytes)) ⌝ }
     requires { ⌜ book ≡ headFrom (now bytes) ⌝ }

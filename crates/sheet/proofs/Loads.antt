@@ -11,9 +11,10 @@ use Rattle.laws.specs.Bytes.{numberAt, sizeOf}
 use Rattle.book.specs.declared.record.Book.{Book}
 use Rattle.book.specs.Record.{ringSize}
 use Rattle.image.specs.declared.loading.Loaded.{Loaded}
-use Rattle.head.specs.Layout.{widths, headSize, bookOf, headFrom}
+use Rattle.head.specs.Layout.{widths, bookOf, isSecond, headFrom}
 use Rattle.image.specs.Loading.{ringOf, loadVerdict, checked, bookFrom, Outcome, outcome, loaded}
 use Rattle.head.proofs.Heads.{field-at}
+use Rattle.head.proofs.Tails.{head-within}
 use Rattle.image.proofs.Verdicts.{LoadOk, load-ok, ok-loaded}
 
 -- R, S and W of the head are bytes 6, 7 and 8 to 9
@@ -27,7 +28,7 @@ module _ (l : List ℕ) (e : checked l ≡ 0) where
   ok = load-ok l (ringOf (headFrom l)) (eq-eqb (loadVerdict l (ringOf (headFrom l)) .number) 0 e)
 
   pub long : 148 ≤ length l
-  long = ok .head .long
+  long = omega (arith, ok .head .long, head-within (isSecond l))
 
   pub shape : (b : Book) → b ≡ bookFrom l → (b .regions ≤ 8) × (b .services ≤ 10)
   unfolding bookFrom bookOf

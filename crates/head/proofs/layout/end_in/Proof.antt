@@ -1,8 +1,6 @@
 -- `head::layout::end_in` meets its contract. Assumes nothing.
-use mathlib.Core.Path.{_≡_, sym, _∙_}
-use mathlib.Core.Bool.{true, false}
+use mathlib.Core.Path.{sym, _∙_}
 use native.Mathlib.Omega.{arith}
-use Rattle.head.specs.Layout.{isSecond}
 use borrow.Author.Needs.{needs}
 use Rattle.head.proofs.layout.end_in.Statement.{statement}
 use Rattle.head.proofs.layout.end_in.Tie as tie

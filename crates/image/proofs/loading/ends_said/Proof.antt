@@ -2,7 +2,6 @@
 use mathlib.Core.Path.{refl}
 use native.Mathlib.Omega.{arith}
 use Rattle.book.specs.Record.{fromOf, toOf}
-use borrow.Author.Needs.{needs}
 use Rattle.image.proofs.loading.ends_said.Statement.{statement}
 use Rattle.image.proofs.loading.ends_said.Tie as tie
 

@@ -4,7 +4,6 @@ use mathlib.Core.Bool.{Bool, true, not, _||_}
 use native.Mathlib.Omega.{arith}
 use lib.ListN.{length}
 use borrow.Author.Tests.{not-true, not-false}
-use Rattle.book.specs.Record.{hasLink}
 use Rattle.book.specs.Validity.{valid}
 use Rattle.image.specs.Loading.{ringOf}
 use Rattle.image.specs.Storing.{pricesOk, kindTells}
