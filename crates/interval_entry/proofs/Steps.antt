@@ -9,9 +9,10 @@ use lib.ListN.{length}
 use Rattle.laws.specs.Base.{pick}
 use Rattle.laws.proofs.Tests.{by-test, never}
 use Rattle.book.specs.declared.record.Book.{Book}
-use Rattle.book.specs.Record.{marketsOf, isAccepted}
+use Rattle.book.specs.Record.{marketsOf, hasLink, isAccepted}
 use Rattle.book.specs.Validity.{valid}
 use Rattle.book.proofs.Passes.{passes-not}
+use Rattle.book.proofs.Ways.{link-known}
 use Rattle.entries.specs.Entering as Entering
 use Rattle.entries.specs.Working.{acceptance}
 use Rattle.entries.proofs.Unmoved.{entered-is}
@@ -19,7 +20,7 @@ use Rattle.publishing.specs.Entry.{Entry, entryOf}
 use Rattle.interval_records.specs.Layout.{Interval, lengthFor}
 use Rattle.intervals.specs.Lent.{slicesOk}
 use Rattle.intervals.specs.Reading as Reading
-use Rattle.intervals.proofs.Ways.{records-room}
+use Rattle.intervals.proofs.Ways.{all-room}
 use Rattle.interval_entry.specs.Taking.{Outcome, enteredFrom, stopped, gone, takenInto}
 
 -- ---- a reading that was accepted: the place after it is within the records
@@ -37,7 +38,7 @@ module _ (b : Book) (records : List ℕ) (at : ℕ) (lent : Interval) (e : isAcc
   read-room =
       let v = passes-not (valid b) _ _ refl read-accepted in
       let l = passes-not (slicesOk b lent) _ _ refl (v .1) in
-      omega (arith, records-room (b .regions) (marketsOf (b .services)) records at (l .1))
+      all-room (hasLink b) (link-known b) (b .regions) (marketsOf (b .services)) records at (l .1)
 
 -- ---- an interval that was accepted
 pub record Taken (b : Book) (records : List ℕ) (at : ℕ) (o : Outcome) : Type 0 where

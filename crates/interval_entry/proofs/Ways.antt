@@ -9,7 +9,7 @@ use lib.IntN.{ℤ, pos}
 use lib.ListN.{length, getD, take, replicate, length-replicate}
 use Rattle.book.specs.declared.record.Book.{Book}
 use Rattle.book.specs.declared.record.Refusal.{Refusal}
-use Rattle.book.specs.Record.{marketsOf, tableSize, isAccepted}
+use Rattle.book.specs.Record.{marketsOf, tableSize, linkCount, isAccepted}
 use Rattle.book.proofs.Ways.{refusal-is}
 use Rattle.publishing.specs.Entry.{Entry, entryOf}
 use Rattle.entries.specs.declared.Entered.{Entered}
@@ -92,16 +92,17 @@ pub energy-in : (r R M : ℕ) → r < R → 1 ≤ M → r * M < R * M
 energy-in r R M h m = omega (arith, mul-le-mul-right M h, suc-mul r M)
 
 -- what is lent for an interval is blank
-pub blank-is : (b : Book) (ring : List ℤ) (records : List ℕ) (at : ℕ) (schedule : List ℤ) (region : ℕ) (o : Outcome) → b .regions ≤ 8
+pub blank-is : (b : Book) (ring : List ℤ) (records : List ℕ) (at : ℕ) (schedule : List ℤ) (region : ℕ) (o : Outcome) (links : ℕ) → links ≡ linkCount b → links ≤ 9 → b .regions ≤ 8
     → tableSize (b .regions) (b .services) ≤ 88
     → (let n = tableSize (b .regions) (b .services) in
-    let lent = intervalOf 0 0 (take n (replicate 88 (pos 0))) (take (b .regions) (replicate 8 0)) (take (b .regions) (replicate 8 (pos 0))) (take (b .regions) (replicate 8 0)) in
+    let lent = intervalOf 0 0 (take n (replicate 88 (pos 0))) (take (b .regions) (replicate 8 0)) (take links (replicate 9 (pos 0))) (take links (replicate 9 0)) in
     o ≡ takenInto lent (take n (replicate 88 (pos 0))) b ring records at schedule region)
     → o ≡ taken b ring records at schedule region
-blank-is b ring records at schedule region o h k e =
+blank-is b ring records at schedule region o links q j h k e =
     let R = b .regions in
     let n = tableSize (b .regions) (b .services) in
     let p = front (pos 0) n 88 k in
     let m = front {A = ℕ} 0 R 8 h in
-    let f = front (pos 0) R 8 h in
-    e ∙ (λ i. takenInto (intervalOf 0 0 (p i) (m i) (f i) (m i)) (p i) b ring records at schedule region)
+    let f = front (pos 0) links 9 j ∙ ap (λ (i : ℕ). replicate i (pos 0)) q in
+    let x = front {A = ℕ} 0 links 9 j ∙ ap (λ (i : ℕ). replicate {A = ℕ} i 0) q in
+    e ∙ (λ i. takenInto (intervalOf 0 0 (p i) (m i) (f i) (x i)) (p i) b ring records at schedule region)

@@ -1,6 +1,7 @@
 // An interval of a day: read from its records, then entered.
 use book::record::Book;
 use book::record::Refusal;
+use book::record::link_count;
 use entries::Publication;
 use entries::enter;
 use intervals::reading::Found;
@@ -101,11 +102,12 @@ pub fn take_interval(
         ≡ taken book (now (ring .entry)) (now (records .entry)) at (now (schedule .entry)) region ⌝ }
 {
     let regions = book.regions as usize;
+    let links = link_count(book);
     let size = regions * (book.services as usize + 1);
     let mut prices = [0i32; 88];
     let mut marked = [0u8; 8];
-    let mut flows = [0i32; 8];
-    let mut factors = [0u32; 8];
+    let mut flows = [0i32; 9];
+    let mut factors = [0u32; 9];
     let mut table = [0i32; 88];
     take_into(
         book,
@@ -116,8 +118,8 @@ pub fn take_interval(
         region,
         &mut prices[..size],
         &mut marked[..regions],
-        &mut flows[..regions],
-        &mut factors[..regions],
+        &mut flows[..links],
+        &mut factors[..links],
         &mut table[..size],
     )
 }

@@ -4,7 +4,8 @@ use native.Mathlib.Nat.{mul-le-mul}
 use native.Mathlib.Omega.{arith}
 use lib.IntN.{pos}
 use borrow.Author.Needs.{needs}
-use Rattle.book.specs.Record.{marketsOf, tableSize}
+use Rattle.book.specs.Record.{marketsOf, tableSize, fromOf}
+use Rattle.book.proofs.Ways.{links-most}
 use Rattle.interval_entry.proofs.Ways.{front-long, energy-in, blank-is}
 use Rattle.interval_entry.proofs.take_interval.Statement.{statement}
 use Rattle.interval_entry.proofs.take_interval.Tie as tie
@@ -16,10 +17,20 @@ small s =
     mul-le-mul (s .pre .0) m
 
 abbrev start : tie.After-table → tie.Start
-start c = c .before .before .before .before .before .before .before .before .before
+start c = c .before .before .before .before .before .before .before .before .before .before
+
+-- the links are at most nine
+few : (k : tie.After-link-count) → k .link-count .result ≤ 9
+few k =
+    let s = k .before .before .before in
+    let b = s .args .book in
+    omega (arith, k .link-count .ensures, links-most (b .regions) (fromOf b), s .pre .0)
 
 cast-regions : tie.Need-cast-regions
 cast-regions c = search needs
+
+link-count-requires : tie.Need-link-count-requires
+link-count-requires c κs = search needs
 
 cast-size : tie.Need-cast-size
 cast-size c = search needs
@@ -28,34 +39,34 @@ add-size : tie.Need-add-size
 add-size c = search needs
 
 mul-size : tie.Need-mul-size
-mul-size c = omega (arith, small (c .before .before .before))
+mul-size c = omega (arith, small (c .before .before .before .before))
 
 array-borrow-prefix-prices : tie.Need-array-borrow-prefix-prices
-array-borrow-prefix-prices c = small (c .before .before .before .before)
+array-borrow-prefix-prices c = small (c .before .before .before .before .before)
 
 slice-aggregate-take-into : tie.Need-slice-aggregate-take-into
-slice-aggregate-take-into c = front-long _ _ 88 (small (c .before .before .before .before .before))
+slice-aggregate-take-into c = front-long _ _ 88 (small (c .before .before .before .before .before .before))
 
 array-borrow-prefix-marked : tie.Need-array-borrow-prefix-marked
 array-borrow-prefix-marked c = search needs
 
 slice-aggregate-take-into-2 : tie.Need-slice-aggregate-take-into-2
-slice-aggregate-take-into-2 c = front-long _ _ 8 (c .before .before .before .before .before .before .pre .0)
+slice-aggregate-take-into-2 c = front-long _ _ 8 (c .before .before .before .before .before .before .before .pre .0)
 
 array-borrow-prefix-flows : tie.Need-array-borrow-prefix-flows
-array-borrow-prefix-flows c = search needs
+array-borrow-prefix-flows c = few (c .before .before .before .before)
 
 slice-aggregate-take-into-3 : tie.Need-slice-aggregate-take-into-3
-slice-aggregate-take-into-3 c = front-long _ _ 8 (c .before .before .before .before .before .before .before .pre .0)
+slice-aggregate-take-into-3 c = front-long _ _ 9 (few (c .before .before .before .before .before))
 
 array-borrow-prefix-factors : tie.Need-array-borrow-prefix-factors
-array-borrow-prefix-factors c = search needs
+array-borrow-prefix-factors c = few (c .before .before .before .before .before)
 
 slice-aggregate-take-into-4 : tie.Need-slice-aggregate-take-into-4
-slice-aggregate-take-into-4 c = front-long _ _ 8 (c .before .before .before .before .before .before .before .before .pre .0)
+slice-aggregate-take-into-4 c = front-long _ _ 9 (few (c .before .before .before .before .before .before))
 
 array-borrow-prefix-table : tie.Need-array-borrow-prefix-table
-array-borrow-prefix-table c = small (c .before .before .before .before .before .before .before .before)
+array-borrow-prefix-table c = small (c .before .before .before .before .before .before .before .before .before)
 
 slice-aggregate-take-into-5 : tie.Need-slice-aggregate-take-into-5
 slice-aggregate-take-into-5 c = front-long _ _ 88 (small (start c))
@@ -74,14 +85,16 @@ returns : tie.Need-returns
 returns c =
     let o = c .before .before .before .before .before .before in
     let s = start (o .before) in
+    let k = o .before .before .before .before .before .before .before .before in
     let a = s .args in
-    blank-is (a .book) (a .ring .now) (a .records .now) (a .at) (a .schedule .now) (a .region) _ (s .pre .0) (small s) (o .take-into .ensures)
+    blank-is (a .book) (a .ring .now) (a .records .now) (a .at) (a .schedule .now) (a .region) _ (k .link-count .result) (k .link-count .ensures) (few k) (s .pre .0) (small s) (o .take-into .ensures)
 
 pub take-interval-spec : {M : Type 1} → statement M
 take-interval-spec =
     tie.close
     (tie.spec
     cast-regions
+    link-count-requires
     cast-size
     add-size
     mul-size
