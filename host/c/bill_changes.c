@@ -8,7 +8,7 @@
 
 static size_t interval_bytes(const struct bill_trial *trial)
 {
-    return GUXHAMOLE_INTERVAL(trial->book.regions, trial->book.services);
+    return independent_interval_bytes(independent_shape_of(&trial->book));
 }
 
 /* A field of a line is one off; of the kilowatt-hours the amount is that of before, which may be right. */

@@ -34,10 +34,10 @@ void trial_copy(struct bill_trial *to, const struct bill_trial *from)
 
 struct independent_bill bill_of(const struct bill_trial *trial)
 {
-    struct independent_bill bill = {trial->book, trial->ring, trial->ring_length, trial->work_length, trial->records,
-                                    trial->records_length, trial->schedule, trial->schedule_length, trial->region, trial->numbers,
-                                    trial->energy, trial->prices, trial->amounts, trial->numbers_length, trial->energy_length,
-                                    trial->prices_length, trial->amounts_length};
+    struct independent_bill bill = {trial->book, independent_book_link(&trial->book), trial->ring, trial->ring_length,
+                                    trial->work_length, trial->records, trial->records_length, trial->schedule, trial->schedule_length,
+                                    trial->region, trial->numbers, trial->energy, trial->prices, trial->amounts, trial->numbers_length,
+                                    trial->energy_length, trial->prices_length, trial->amounts_length};
     return bill;
 }
 
@@ -71,7 +71,7 @@ void trial_begin(struct bill_trial *trial, const guxhamole_settings *settings)
         bill_differs("an opening or a blank image was refused", seed);
     trial->book = kept.book;
     trial->ledger = &ledger;
-    independent_ledger_open(&ledger, settings);
+    independent_ledger_open(&ledger, settings, independent_settings_link(settings));
     begin_lengths(trial);
     memset(trial->schedule, 0, sizeof *trial->schedule * trial->schedule_length);
 }
@@ -79,7 +79,7 @@ void trial_begin(struct bill_trial *trial, const guxhamole_settings *settings)
 void trial_add(struct bill_trial *trial, const struct independent_interval *interval)
 {
     static const unsigned upward[] = {0, 1, 2, 3, 4, 5, 6, 7};
-    trial->records_length += independent_interval_write(trial->book.regions, trial->book.services, interval, upward,
+    trial->records_length += independent_interval_write(independent_shape_of(&trial->book), interval, upward,
                                                         trial->records + trial->records_length);
 }
 
@@ -113,7 +113,7 @@ void trial_bill(struct bill_trial *trial)
     struct independent_bill bill = bill_of(trial);
     struct independent_ledger *ledger = trial->ledger;
     if (ledger == NULL) {
-        independent_ledger_of(&made, &trial->book, trial->ring);
+        independent_ledger_of(&made, &trial->book, independent_book_link(&trial->book), trial->ring);
         ledger = &made;
     }
     memcpy(work, trial->ring, sizeof *work * trial->ring_length);
@@ -153,6 +153,10 @@ static struct independent_interval any_interval_of(const guxhamole_book *book, u
             interval.factors[region] = (uint32_t)next();
         if (interval.marks[region] && below(2))
             interval.prices[region * markets] = (int32_t)next();
+    }
+    if (independent_has_link(independent_book_link(book))) {
+        interval.flows[book->regions] = any_link_flow();
+        interval.factors[book->regions] = any_link_factor();
     }
     return interval;
 }
@@ -206,7 +210,7 @@ static void open_with_history(struct bill_trial *trial)
 /* A book from an image, now and then about to take its last entry. */
 static void load_image(struct bill_trial *trial)
 {
-    static uint8_t image[148 + 4 * 88 * WIDEST];
+    static uint8_t image[IMAGE_HEAD + 4 * 88 * WIDEST];
     size_t length = any_image(WIDEST, image);
     if (below(4) == 0)
         put_number(image, 20, 4, 10000000 - below(4));

@@ -50,6 +50,14 @@ static int periods_bad(const uint8_t *image, unsigned regions, unsigned services
     return 0;
 }
 
+/* 26, of bytes 148 to 155 of an image of kind 2: the ends, two zeros and what is kept for later. */
+static int link_bad(const uint8_t *image)
+{
+    if (independent_ends_bad(image[6], image + 12, independent_ends(image[148], image[149])))
+        return 1;
+    return image[150] != 0 || image[151] != 0 || independent_number(image, 152, 4) != 0xffffffff;
+}
+
 static int field_bad(const uint8_t *image)
 {
     unsigned regions = image[6], services = image[7], halves = image[10];
@@ -89,23 +97,50 @@ static int price_bad(unsigned market, int64_t price)
     return price > 10000000 || price < (market == 0 ? -10000000 : 0);
 }
 
-uint32_t independent_check(const uint8_t *image, size_t length)
+size_t independent_head(unsigned kind)
+{
+    return kind == 1 ? 148 : 156;
+}
+
+struct independent_link independent_image_link(const uint8_t *image)
+{
+    return independent_number(image, 4, 2) == 1 ? independent_no_link() : independent_ends(image[148], image[149]);
+}
+
+/* 24 to 27, or 0. Kind 2 is 24 under 156 bytes, a kind that isn't known 25 at any length. */
+static uint32_t head_refusal(const uint8_t *image, size_t length, unsigned kinds)
 {
     if (length < 148 || independent_number(image, 0, 4) != length)
         return 24;
-    if (independent_number(image, 4, 2) != 1)
+    unsigned kind = (unsigned)independent_number(image, 4, 2);
+    if (kind < 1 || kind > kinds)
         return 25;
-    if (field_bad(image))
+    if (length < independent_head(kind))
+        return 24;
+    if (field_bad(image) || (kind == 2 && link_bad(image)))
         return 26;
-    if (length != 148 + 4 * counted(image))
-        return 27;
-    size_t at = 148;
+    return length != independent_head(kind) + 4 * counted(image) ? 27 : 0;
+}
+
+struct independent_refusal independent_image_refusal(const uint8_t *image, size_t length, unsigned kinds)
+{
+    struct independent_refusal refusal = {head_refusal(image, length, kinds), 0};
+    if (refusal.number != 0)
+        return refusal;
+    size_t at = independent_head((unsigned)independent_number(image, 4, 2)), place = 0;
     for (unsigned r = 0; r < image[6]; r++)
         for (unsigned m = 0; m <= image[7]; m++)
-            for (uint64_t i = 0; i < count_of(image, r); i++, at += 4)
-                if (price_bad(m, word(image, at)))
-                    return 16;
-    return 0;
+            for (uint64_t i = 0; i < count_of(image, r); i++, place++)
+                if (refusal.number == 0 && price_bad(m, word(image, at + 4 * place))) {
+                    refusal.number = 16;
+                    refusal.place = place;
+                }
+    return refusal;
+}
+
+uint32_t independent_check(const uint8_t *image, size_t length)
+{
+    return independent_image_refusal(image, length, LINKS_ON ? 2 : 1).number;
 }
 
 int64_t independent_index(uint64_t amount, const uint32_t c[4], const uint32_t b[4], uint64_t last)
@@ -138,7 +173,8 @@ size_t independent_sheet(const uint8_t *image, size_t length, char *out)
     unsigned regions = image[6], markets = image[7] + 1u;
     if (regions * markets * independent_number(image, 8, 2) > 16384)
         return (size_t)sprintf(out, "refused 29\n");
-    size_t n = (size_t)sprintf(out, "region,market,counted,sum,administered\n"), at = 148;
+    size_t n = (size_t)sprintf(out, "region,market,counted,sum,administered\n");
+    size_t at = independent_head((unsigned)independent_number(image, 4, 2));
     for (unsigned r = 0; r < regions; r++)
         for (unsigned m = 0; m < markets; m++) {
             int64_t sum = 0;

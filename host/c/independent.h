@@ -3,13 +3,28 @@
 #ifndef INDEPENDENT_H
 #define INDEPENDENT_H
 
-#include <stddef.h>
-#include <stdint.h>
+#include "independent_link.h"
 
 /* An image's number of so many bytes at a place. */
 uint64_t independent_number(const uint8_t *image, size_t at, int bytes);
 
+/* A refusal's number, or 0; and its place. */
+struct independent_refusal {
+    uint32_t number;
+    uint64_t place;
+};
+
+/* The check where images of kinds 1 to `kinds` are known: 24 to 27, and 16 with its place. */
+struct independent_refusal independent_image_refusal(const uint8_t *image, size_t length, unsigned kinds);
+
+/* The number alone, where the kinds are those of the archive (independent_link.h). */
 uint32_t independent_check(const uint8_t *image, size_t length);
+
+/* Where the prices begin in an image of this kind. */
+size_t independent_head(unsigned kind);
+
+/* The additional link that an image, one that passes the check, says: none where it is of kind 1. */
+struct independent_link independent_image_link(const uint8_t *image);
 
 int64_t independent_index(uint64_t amount, const uint32_t c[4], const uint32_t b[4], uint64_t last);
 

@@ -40,9 +40,10 @@ static int market_bad(const guxhamole_book *book, unsigned region, unsigned mark
     return independent_sum_bad(sum) || mark > 1;
 }
 
-int independent_book_bad(const guxhamole_book *book)
+/* The closed book's ends are 0, 0, and bad; by its regions it is refused all the same. */
+int independent_book_bad(const guxhamole_book *book, struct independent_link link)
 {
-    int bad = fields_bad(book);
+    int bad = fields_bad(book) || independent_ends_bad(book->regions, book->parents, link);
     for (unsigned region = 0; region < 8; region++) {
         bad |= region_bad(book, region);
         for (unsigned market = 0; market < 11; market++)
@@ -61,4 +62,26 @@ size_t independent_counted(const guxhamole_book *book, const int32_t *ring, unsi
         prices[i - 1] = window[place];
     }
     return count;
+}
+
+int independent_window_bad(const guxhamole_book *book, const int32_t *ring, unsigned region, unsigned market)
+{
+    static int32_t prices[2016];
+    int bad = 0;
+    int64_t sum = 0;
+    size_t count = independent_counted(book, ring, region, market, prices);
+    for (size_t i = 0; i < count; i++) {
+        bad |= outside(prices[i], market == 0 ? -10000000 : 0, 10000000);
+        sum += prices[i];
+    }
+    return bad || sum != book->sums[11 * region + market];
+}
+
+int independent_ring_bad(const guxhamole_book *book, const int32_t *ring)
+{
+    int bad = 0;
+    for (unsigned region = 0; region < book->regions; region++)
+        for (unsigned market = 0; market <= book->services; market++)
+            bad |= independent_window_bad(book, ring, region, market);
+    return bad;
 }

@@ -6,7 +6,7 @@
 #include <string.h>
 
 /* 20: an opening's settings but for its money. */
-static int setting_bad(const guxhamole_settings *settings)
+static int setting_bad(const guxhamole_settings *settings, struct independent_link link)
 {
     if (settings->regions < 1 || settings->regions > 8 || settings->services > 10 || settings->window < 1 || settings->window > 2016)
         return 1;
@@ -17,7 +17,7 @@ static int setting_bad(const guxhamole_settings *settings)
         if (parent != 255 && (region >= settings->regions || parent >= region))
             return 1;
     }
-    return 0;
+    return independent_ends_bad(settings->regions, settings->parents, link);
 }
 
 uint32_t independent_threshold(int64_t threshold)
@@ -32,19 +32,25 @@ uint32_t independent_limits(int32_t cap, int32_t floor)
     return cap < 1 || cap > 10000000 || floor < -10000000 || floor > -1 ? 19 : 0;
 }
 
-uint32_t independent_opening(const guxhamole_settings *settings, size_t ring_length)
+static size_t ring_places(const guxhamole_settings *settings)
 {
-    if (setting_bad(settings))
+    return settings->regions * (settings->services + (size_t)1) * settings->window;
+}
+
+uint32_t independent_opening(const guxhamole_settings *settings, struct independent_link link, size_t ring_length)
+{
+    if (setting_bad(settings, link))
         return 20;
-    if (ring_length != settings->regions * (settings->services + (size_t)1) * settings->window)
+    if (ring_length != ring_places(settings))
         return 11;
     uint32_t threshold = independent_threshold(settings->threshold);
     return threshold != 0 ? threshold : independent_limits(settings->cap, settings->floor);
 }
 
-void independent_ledger_open(struct independent_ledger *ledger, const guxhamole_settings *settings)
+void independent_ledger_open(struct independent_ledger *ledger, const guxhamole_settings *settings, struct independent_link link)
 {
     ledger->settings = *settings;
+    ledger->link = link;
     ledger->entries = 0;
     memset(ledger->triggered, 0, sizeof ledger->triggered);
     memset(ledger->released, 0, sizeof ledger->released);
@@ -65,7 +71,7 @@ void independent_ledger_load(struct independent_ledger *ledger, const uint8_t *i
     settings.threshold = (int64_t)independent_number(image, 28, 8);
     settings.cap = (int32_t)independent_number(image, 36, 4);
     settings.floor = (int32_t)independent_number(image, 40, 4);
-    independent_ledger_open(ledger, &settings);
+    independent_ledger_open(ledger, &settings, independent_image_link(image));
 }
 
 /* Of the next entry. */
@@ -105,16 +111,25 @@ static int32_t published(const struct independent_ledger *ledger, unsigned regio
     return effective;
 }
 
+void independent_ledger_effective(const struct independent_ledger *ledger, uint8_t day_kind, const int32_t *prices, const uint8_t *marks,
+                                  const int32_t *schedule, int32_t *effective)
+{
+    unsigned markets = ledger->settings.services + 1u;
+    for (unsigned place = 0; place < ledger->settings.regions * markets; place++)
+        effective[place] =
+            marks[place / markets] ? scheduled(ledger, day_kind, place, place % markets == 0, schedule) : prices[place];
+}
+
 uint32_t independent_ledger_publish(const struct independent_ledger *ledger, uint8_t day_kind, const int32_t *prices,
                                     const uint8_t *marks, const int32_t *schedule, int32_t *table)
 {
     unsigned markets = ledger->settings.services + 1u;
     uint32_t changed = 0;
+    int32_t effective[88];
+    independent_ledger_effective(ledger, day_kind, prices, marks, schedule, effective);
     for (unsigned place = 0; place < ledger->settings.regions * markets; place++) {
-        unsigned region = place / markets, market = place % markets;
-        int32_t effective = marks[region] ? scheduled(ledger, day_kind, place, market == 0, schedule) : prices[place];
-        table[place] = published(ledger, region, market, effective);
-        changed += table[place] != effective;
+        table[place] = published(ledger, place / markets, place % markets, effective[place]);
+        changed += table[place] != effective[place];
     }
     return changed;
 }
@@ -153,6 +168,18 @@ void independent_ledger_enter(struct independent_ledger *ledger, const int32_t *
             follow_market(ledger, region, market);
     }
     ledger->entries++;
+}
+
+uint32_t independent_ledger_restart(const struct independent_ledger *ledger, unsigned kind, size_t room, size_t other_length)
+{
+    size_t counted = 0;
+    for (unsigned region = 0; region < ledger->settings.regions; region++)
+        counted += ledger->counts[region] < ledger->settings.window ? ledger->counts[region] : ledger->settings.window;
+    if (kind == 1 && independent_has_link(ledger->link))
+        return 47;
+    if (room < independent_head(kind) + 4 * counted * (ledger->settings.services + (size_t)1))
+        return 23;
+    return other_length != ring_places(&ledger->settings) ? 11 : 0;
 }
 
 guxhamole_reading independent_ledger_report(const struct independent_ledger *ledger, uint32_t region, uint32_t market)

@@ -4,13 +4,14 @@
 #ifndef INDEPENDENT_LEDGER_H
 #define INDEPENDENT_LEDGER_H
 
-#include "guxhamole.h"
+#include "independent_link.h"
 
 /* Room for the entries of a test, and for a window of copies after them. */
 enum { LEDGER_MOST = 2 * 2016 + 100 };
 
 struct independent_ledger {
     guxhamole_settings settings;          /* threshold, cap and floor are those last set */
+    struct independent_link link;         /* the additional one, or none */
     uint32_t entries;                     /* accepted */
     uint32_t triggered[88], released[88]; /* the last entry that did so to the market, from 1 up, at 11 x region + market; 0: none */
     size_t counts[8];                     /* of the intervals at which the region was unmarked */
@@ -19,13 +20,17 @@ struct independent_ledger {
 };
 
 /* What an opening, a threshold or limits are refused by, or 0. */
-uint32_t independent_opening(const guxhamole_settings *settings, size_t ring_length);
+uint32_t independent_opening(const guxhamole_settings *settings, struct independent_link link, size_t ring_length);
 uint32_t independent_threshold(int64_t threshold);
 uint32_t independent_limits(int32_t cap, int32_t floor);
 
 /* Begins with an accepted opening, or with an image's settings in its place: the next entry's position is then the first one. */
-void independent_ledger_open(struct independent_ledger *ledger, const guxhamole_settings *settings);
+void independent_ledger_open(struct independent_ledger *ledger, const guxhamole_settings *settings, struct independent_link link);
 void independent_ledger_load(struct independent_ledger *ledger, const uint8_t *image);
+
+/* Step 1: what the next entry's prices are before anything is held within a limit of a period. */
+void independent_ledger_effective(const struct independent_ledger *ledger, uint8_t day_kind, const int32_t *prices, const uint8_t *marks,
+                                  const int32_t *schedule, int32_t *effective);
 
 /* What the next entry publishes into `table` where no power flows, and how many prices that changes. */
 uint32_t independent_ledger_publish(const struct independent_ledger *ledger, uint8_t day_kind, const int32_t *prices,
@@ -36,6 +41,9 @@ void independent_ledger_enter(struct independent_ledger *ledger, const int32_t *
 
 /* Whether the market is administered at the next entry. */
 int independent_ledger_administered(const struct independent_ledger *ledger, unsigned region, unsigned market);
+
+/* What a restart by an image of this kind is refused by, or 0: 47, 23 for the room, 11 for the other ring. It changes nothing. */
+uint32_t independent_ledger_restart(const struct independent_ledger *ledger, unsigned kind, size_t room, size_t other_length);
 
 guxhamole_reading independent_ledger_report(const struct independent_ledger *ledger, uint32_t region, uint32_t market);
 

@@ -54,41 +54,21 @@ struct independent_left independent_ledger_left(struct independent_ledger *ledge
     return left;
 }
 
-/* 22, of a market. */
-static int window_bad(const guxhamole_book *book, const int32_t *ring, unsigned region, unsigned market)
-{
-    static int32_t prices[2016];
-    int bad = 0;
-    size_t count = independent_counted(book, ring, region, market, prices);
-    for (size_t i = 0; i < count; i++)
-        bad |= price_bad(market, prices[i]);
-    return bad || independent_sum(prices, count, count) != book->sums[11 * region + market];
-}
-
-static int any_window_bad(const guxhamole_book *book, const int32_t *ring)
-{
-    int bad = 0;
-    for (unsigned region = 0; region < book->regions; region++)
-        for (unsigned market = 0; market <= book->services; market++)
-            bad |= window_bad(book, ring, region, market);
-    return bad;
-}
-
 struct independent_left independent_intervals_left(const guxhamole_book *book, const int32_t *ring, size_t length, uint32_t region,
                                                    uint32_t market, int32_t price)
 {
     static int32_t prices[2 * 2016];
     struct independent_left left;
     memset(&left, 0, sizeof left);
-    left.holds[HOLDS_BOOK] = independent_book_bad(book);
+    left.holds[HOLDS_BOOK] = independent_book_bad(book, independent_book_link(book));
     if (!left.holds[HOLDS_BOOK]) {
         left.holds[HOLDS_LENGTH] = length != book->regions * (book->services + (size_t)1) * book->window;
         left.holds[HOLDS_MARKET] = region >= book->regions || market > book->services;
-        left.holds[HOLDS_SUMS] = !left.holds[HOLDS_LENGTH] && any_window_bad(book, ring);
+        left.holds[HOLDS_SUMS] = !left.holds[HOLDS_LENGTH] && independent_ring_bad(book, ring);
         left.holds[HOLDS_PRICE] = price_bad(market, price);
     }
     refuse(&left);
-    left.elsewhere = left.number == 22 && !window_bad(book, ring, region, market);
+    left.elsewhere = left.number == 22 && !independent_window_bad(book, ring, region, market);
     if (left.number == 0) {
         size_t count = independent_counted(book, ring, region, market, prices);
         enter_copies(&left, prices, count, book->window, price, book->threshold);

@@ -95,8 +95,8 @@ static void count_rewriting(const struct trial *trial, uint32_t number, int same
         break;
     case GUXHAMOLE_BUFFER:
         seen[REWRITTEN_23]++;
-        seen[BAD_23] += independent_interval_earlier(trial->book.regions, trial->book.services, trial->records, trial->length,
-                                                     trial->at, &interval, &after) != 0;
+        seen[BAD_23] += independent_interval_earlier(independent_shape_of(&trial->book), trial->records, trial->length, trial->at,
+                                                     &interval, &after) != 0;
         break;
     case GUXHAMOLE_RECORD_BROKEN: seen[REWRITTEN_40]++; break;
     case GUXHAMOLE_RECORD_KIND: seen[REWRITTEN_41]++; break;
@@ -113,8 +113,7 @@ guxhamole_found read_alike(const struct trial *trial, struct independent_interva
     guarded_keep();
     uint32_t want = lent_refusal(&trial->book, trial->lent);
     if (want == 0)
-        want = independent_interval_read(trial->book.regions, trial->book.services, records, trial->length, trial->at, interval,
-                                         &next_place);
+        want = independent_interval_read(independent_shape_of(&trial->book), records, trial->length, trial->at, interval, &next_place);
     guxhamole_found found = guxhamole_interval_read(trial->book, records, trial->length, trial->at, slices.prices,
                                                     trial->lent.prices, slices.marks, trial->lent.marks, slices.flows,
                                                     trial->lent.flows, slices.factors, trial->lent.factors);
@@ -147,10 +146,10 @@ guxhamole_stored write_alike(const struct trial *trial, uint8_t *told, uint64_t 
     struct slices slices = slices_to_read(trial->lent, interval);
     guarded_keep();
     uint32_t want = lent_refusal(&trial->book, trial->lent);
-    size_t length = want == 0 ? GUXHAMOLE_INTERVAL(trial->book.regions, trial->book.services) : 0;
+    size_t length = want == 0 ? interval_length(&trial->book) : 0;
     if (want == 0 && trial->room < length)
         want = GUXHAMOLE_BUFFER;
-    if (want == 0 && independent_interval_write(trial->book.regions, trial->book.services, interval, upward, records) != length)
+    if (want == 0 && independent_interval_write(independent_shape_of(&trial->book), interval, upward, records) != length)
         interval_differs("the header's length of an interval", from);
     guxhamole_stored stored = guxhamole_interval_write(trial->book, interval->entry, (uint8_t)interval->day_kind, slices.prices,
                                                        trial->lent.prices, slices.marks, trial->lent.marks, slices.flows,
@@ -172,8 +171,8 @@ guxhamole_rewritten rewrite_alike(const struct trial *trial, uint8_t *told, uint
     guarded_keep();
     uint32_t want = lent_refusal(&trial->book, right_lengths(&trial->book));
     if (want == 0)
-        want = independent_interval_rewrite(trial->book.regions, trial->book.services, records, trial->length, trial->at, wanted,
-                                            trial->room, &after);
+        want = independent_interval_rewrite(independent_shape_of(&trial->book), records, trial->length, trial->at, wanted, trial->room,
+                                            &after);
     guxhamole_rewritten rewritten = guxhamole_interval_rewrite(trial->book, records, trial->length, trial->at, buffer, trial->room);
     if (rewritten.number != want)
         interval_differs("a rewriting's number", from);
@@ -191,10 +190,11 @@ static void rewritten_reads(const struct trial *given, const uint8_t *told, size
     static struct trial trial;
     static uint8_t again[TRIAL_BYTES];
     struct independent_interval back;
-    size_t length = GUXHAMOLE_INTERVAL(given->book.regions, given->book.services), after;
+    size_t length = interval_length(&given->book), after;
     trial = *given;
-    if (independent_interval_earlier(trial.book.regions, trial.book.services, trial.records, trial.length, trial.at, &trial.interval,
-                                     &after) != 0 || after != next_place || after != given->at + length)
+    uint32_t earlier = independent_interval_earlier(independent_shape_of(&trial.book), trial.records, trial.length, trial.at,
+                                                    &trial.interval, &after);
+    if (earlier != 0 || after != next_place || after != given->at + length)
         interval_differs("an interval that is rewritten and not of the earlier form", from);
     memcpy(trial.records, told, length);
     trial.at = 0;

@@ -230,8 +230,8 @@ static void one_list(void)
         unsigned order[8];
         struct independent_interval interval = any_interval(&book);
         any_order(book.regions, SHUFFLED, order);
-        independent_interval_write(book.regions, book.services, &interval, order, bytes[0] + at);
-        independent_interval_write(book.regions, book.services, &interval, upward, bytes[1] + at);
+        independent_interval_write(independent_shape_of(&book), &interval, order, bytes[0] + at);
+        independent_interval_write(independent_shape_of(&book), &interval, upward, bytes[1] + at);
         listed++;
     }
     for (int which = 0; which < 2; which++) {

@@ -13,7 +13,8 @@ enum { OLD = 77777777, OLD_MARK = 77 };
 
 struct lengths right_lengths(const guxhamole_book *book)
 {
-    struct lengths right = {GUXHAMOLE_PRICES(book->regions, book->services), book->regions, book->regions, book->regions};
+    size_t places = independent_places(independent_shape_of(book));
+    struct lengths right = {GUXHAMOLE_PRICES(book->regions, book->services), book->regions, places, places};
     return right;
 }
 
@@ -40,9 +41,9 @@ struct slices slices_to_read(struct lengths lent, const struct independent_inter
         slices.prices[i] = interval->prices[i];
     for (size_t i = 0; i < lent.marks && i < 8; i++)
         slices.marks[i] = interval->marks[i];
-    for (size_t i = 0; i < lent.flows && i < 8; i++)
+    for (size_t i = 0; i < lent.flows && i < 9; i++)
         slices.flows[i] = interval->flows[i];
-    for (size_t i = 0; i < lent.factors && i < 8; i++)
+    for (size_t i = 0; i < lent.factors && i < 9; i++)
         slices.factors[i] = interval->factors[i];
     return slices;
 }
@@ -72,7 +73,7 @@ uint32_t lent_refusal(const guxhamole_book *book, struct lengths lent)
 
 guxhamole_book any_book(void)
 {
-    static uint8_t image[148 + 4 * 88];
+    static uint8_t image[IMAGE_HEAD + 4 * 88];
     static int32_t ring[88];
     size_t length = any_image(1, image);
     guxhamole_kept kept = guxhamole_load(image, length, ring, GUXHAMOLE_RING(image[6], image[7], 1));

@@ -10,7 +10,8 @@
 
 size_t interval_length(const guxhamole_book *book)
 {
-    return GUXHAMOLE_INTERVAL(book->regions, book->services);
+    size_t length = GUXHAMOLE_INTERVAL(book->regions, book->services);
+    return independent_has_link(independent_book_link(book)) ? length + 14 : length;
 }
 
 size_t record_place(const struct trial *trial, size_t record)
@@ -59,12 +60,16 @@ struct independent_interval any_interval(const guxhamole_book *book)
         interval.flows[region] = any_signed();
         interval.factors[region] = any_word();
     }
+    if (independent_has_link(independent_book_link(book))) {
+        interval.flows[book->regions] = any_signed();
+        interval.factors[book->regions] = any_word();
+    }
     return interval;
 }
 
 void put_interval(struct trial *trial, const unsigned *order)
 {
-    independent_interval_write(trial->book.regions, trial->book.services, &trial->interval, order, trial->records + trial->at);
+    independent_interval_write(independent_shape_of(&trial->book), &trial->interval, order, trial->records + trial->at);
 }
 
 void any_order(unsigned regions, enum form form, unsigned *order)
@@ -109,7 +114,7 @@ static void damage_field(struct trial *trial)
         size_t at;
         int width;
     } fields[] = {{0, 4}, {0, 1}, {4, 2}, {4, 1}, {6, 1}};
-    size_t field = below(sizeof fields / sizeof *fields), record = below(trial->book.regions + 1u);
+    size_t field = below(sizeof fields / sizeof *fields), record = below(independent_places(independent_shape_of(&trial->book)) + 1);
     size_t place = record_place(trial, record) + fields[field].at;
     uint64_t old = trial->records[place];
     uint64_t number = below(2) ? numbers[below(sizeof numbers / sizeof *numbers)] : below(2) ? old + 1 : old - 1;

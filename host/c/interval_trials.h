@@ -5,7 +5,7 @@
 
 #include "interval_slices.h"
 
-enum { INTERVAL_MOST = GUXHAMOLE_INTERVAL(8, 10), TRIAL_BYTES = INTERVAL_MOST + 100 };
+enum { INTERVAL_MOST = GUXHAMOLE_INTERVAL(8, 10) + 14, TRIAL_BYTES = INTERVAL_MOST + 100 };
 
 /* What the records are: the interval's, in number order or in another, or whatever damage made of them. */
 enum form { UPWARD, SHUFFLED, DAMAGED };
@@ -22,7 +22,7 @@ struct trial {
 
 size_t interval_length(const guxhamole_book *book);
 
-/* The place of a record of the interval: 0 is the head, 1 the first region's. */
+/* The place of a record of the interval: 0 is the head, 1 the first region's; the additional link's comes after the last region's. */
 size_t record_place(const struct trial *trial, size_t record);
 
 /* A new book of this size with a window of 1, each region linked to the one before. */

@@ -47,7 +47,7 @@ void running_begin(struct running *running, const guxhamole_settings *settings, 
     if (loaded)
         independent_ledger_load(&running->ledger, image);
     else
-        independent_ledger_open(&running->ledger, settings);
+        independent_ledger_open(&running->ledger, settings, independent_settings_link(settings));
 }
 
 void running_enter(struct running *running, const int32_t *prices, const uint8_t *marks)

@@ -4,6 +4,7 @@
 #include <string.h>
 
 uint64_t seed = 20261115;
+int make_links = LINKS_ON;
 
 /* splitmix64 */
 uint64_t next(void)
@@ -47,7 +48,13 @@ struct plan plain(void)
     memset(&p, 0, sizeof p);
     p.regions = 1, p.window = 1, p.halves = 1, p.threshold = 95000, p.cap = 60000, p.floor = -60000;
     memset(p.parents, 255, sizeof p.parents);
+    p.kind = 1, p.link.from = 255, p.link.to = 255;
     return p;
+}
+
+static size_t head_of(uint64_t kind)
+{
+    return kind == 2 ? IMAGE_HEAD : 148;
 }
 
 size_t size_of(const struct plan *plan)
@@ -55,7 +62,7 @@ size_t size_of(const struct plan *plan)
     size_t n = 0;
     for (unsigned r = 0; r < 8; r++)
         n += plan->counts[r];
-    return 148 + 4 * n * (plan->services + 1);
+    return head_of(plan->kind) + 4 * n * (plan->services + 1);
 }
 
 void put_number(uint8_t *image, size_t at, int bytes, uint64_t n)
@@ -66,14 +73,32 @@ void put_number(uint8_t *image, size_t at, int bytes, uint64_t n)
 
 void put_price(uint8_t *image, size_t place, int32_t price)
 {
-    put_number(image, 148 + 4 * place, 4, (uint32_t)price);
+    put_number(image, image_head(image) + 4 * place, 4, (uint32_t)price);
+}
+
+size_t image_head(const uint8_t *image)
+{
+    return head_of(image[4] + 256u * image[5]);
+}
+
+size_t image_places(const uint8_t *image, size_t length)
+{
+    return length < image_head(image) ? 0 : (length - image_head(image)) / 4;
+}
+
+static void put_link(const struct plan *plan, uint8_t *image)
+{
+    image[148] = plan->link.from;
+    image[149] = plan->link.to;
+    put_number(image, 150, 2, 0);
+    put_number(image, 152, 4, 0xffffffff);
 }
 
 size_t lay_out(const struct plan *plan, int32_t price, uint8_t *image)
 {
     size_t length = size_of(plan);
     put_number(image, 0, 4, length);
-    put_number(image, 4, 2, 1);
+    put_number(image, 4, 2, plan->kind);
     image[6] = (uint8_t)plan->regions;
     image[7] = (uint8_t)plan->services;
     put_number(image, 8, 2, plan->window);
@@ -89,9 +114,79 @@ size_t lay_out(const struct plan *plan, int32_t price, uint8_t *image)
     for (unsigned r = 0; r < 8; r++)
         put_number(image, 44 + 2 * r, 2, plan->counts[r]);
     memcpy(image + 60, plan->periods, 88);
-    for (size_t i = 0; 148 + 4 * i < length; i++)
+    if (plan->kind == 2)
+        put_link(plan, image);
+    for (size_t i = 0; i < image_places(image, length); i++)
         put_price(image, i, price);
     return length;
+}
+
+/* One of all good pairs of ends, each as likely as the others. */
+struct independent_link any_link(unsigned regions, const uint8_t *parents)
+{
+    struct independent_link good[56], none = {255, 255};
+    size_t count = 0;
+    for (unsigned from = 0; from < regions; from++)
+        for (unsigned to = 0; to < regions; to++)
+            if (from != to && parents[from] != to && parents[to] != from) {
+                good[count].from = (uint8_t)from;
+                good[count++].to = (uint8_t)to;
+            }
+    return count == 0 ? none : good[below(count)];
+}
+
+struct independent_link any_ends(unsigned regions, const uint8_t *parents)
+{
+    static const uint8_t strange[] = {255, 254, 8, 9, 0, 7};
+    struct independent_link link = any_link(regions, parents);
+    unsigned child = (unsigned)below(regions);
+    switch (below(5)) {
+    case 0: link.from = strange[below(sizeof strange)]; break;
+    case 1: link.to = strange[below(sizeof strange)]; break;
+    case 2: link.from = link.to; break;
+    case 3: link.from = (uint8_t)child, link.to = parents[child]; break;
+    default: link.from = parents[child], link.to = (uint8_t)child;
+    }
+    if (below(8) == 0)
+        link.to = (uint8_t)regions;
+    return link;
+}
+
+int32_t any_link_flow(void)
+{
+    int64_t flow = within(-1, 1);
+    return (int32_t)(flow * (below(3) ? 1 : 2147483647));
+}
+
+uint32_t any_link_factor(void)
+{
+    uint64_t draw = below(8);
+    return (uint32_t)(draw > 1 ? within(10000, 20000) : draw == 1 ? 10000 : 20000);
+}
+
+void damage_link(uint8_t *image, size_t length)
+{
+    static const uint8_t kinds[] = {0, 1, 2, 3, 255};
+    if (length < IMAGE_HEAD || image[4] != 2 || below(4) == 0) {
+        image[4] = kinds[below(sizeof kinds)];
+    } else if (below(2)) {
+        struct independent_link link = any_ends(image[6] < 1 || image[6] > 8 ? 1 : image[6], image + 12);
+        image[148] = link.from;
+        image[149] = link.to;
+    } else {
+        size_t at = 148 + below(8);
+        image[at] = (uint8_t)(below(2) ? image[at] ^ 1u << below(8) : next());
+    }
+}
+
+/* Without the links no number is drawn: a seed makes the plan that it made before there were any. */
+static void link_plan(struct plan *p)
+{
+    if (!make_links)
+        return;
+    p->kind = 1 + (unsigned)below(2);
+    if (p->kind == 2 && below(4) != 0)
+        p->link = any_link(p->regions, p->parents);
 }
 
 struct plan any_plan(unsigned widest)
@@ -117,6 +212,7 @@ struct plan any_plan(unsigned widest)
         for (unsigned m = 0; m <= p.services; m++)
             p.periods[11 * r + m] = (uint8_t)below(2);
     }
+    link_plan(&p);
     return p;
 }
 

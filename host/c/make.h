@@ -2,8 +2,10 @@
 #ifndef MAKE_H
 #define MAKE_H
 
-#include <stddef.h>
-#include <stdint.h>
+#include "independent_link.h"
+
+/* Whether random plans and images have additional links, and are of both kinds: LINKS_ON, unless a test sets it. */
+extern int make_links;
 
 struct plan {
     unsigned regions, services, window, halves;
@@ -14,12 +16,17 @@ struct plan {
     int32_t cap, floor;
     unsigned counts[8];
     uint8_t periods[88]; /* at 11 x region + market */
+    unsigned kind;       /* of the image, 1 or 2 */
+    struct independent_link link;
 };
 
-/* The longest image: 8 regions of 11 markets, each of 2,016 prices. */
-#define LONGEST (148 + 4 * 88 * 2016)
+/* Where prices begin in an image at the latest: 148 where it is of kind 1, else 156. */
+enum { IMAGE_HEAD = 156 };
 
-/* A small book with nothing counted: 1 region, no service, window 1, threshold 95,000, limits of 60,000. */
+/* The longest image: 8 regions of 11 markets, each of 2,016 prices. */
+#define LONGEST (IMAGE_HEAD + 4 * 88 * 2016)
+
+/* A small book with nothing counted: 1 region, no service, window 1, threshold 95,000, limits of 60,000; of kind 1, without a link. */
 struct plan plain(void);
 
 /* The length of the plan's image, and the image with price `price` at every place. */
@@ -28,6 +35,10 @@ size_t lay_out(const struct plan *plan, int32_t price, uint8_t *image);
 
 void put_number(uint8_t *image, size_t at, int bytes, uint64_t n);
 void put_price(uint8_t *image, size_t place, int32_t price);
+
+/* Where an image's prices begin by the kind that it says, and how many of them its length has room for. */
+size_t image_head(const uint8_t *image);
+size_t image_places(const uint8_t *image, size_t length);
 
 /* The next of a fixed run of numbers, one below `n`, and one from `least` to `most`. */
 extern uint64_t seed;
@@ -39,6 +50,18 @@ int64_t within(int64_t least, int64_t most);
    9,999 below the multiple that is told, or a worked one, whatever is told. And one out of range, multiples among them. */
 int64_t threshold_beside(int64_t multiple);
 int64_t threshold_out(void);
+
+/* An additional link that a book of these parents may have, closing a ring or not, either way round; none where there is no such pair. And
+   ends that are mostly none of these. */
+struct independent_link any_link(unsigned regions, const uint8_t *parents);
+struct independent_link any_ends(unsigned regions, const uint8_t *parents);
+
+/* A link's flow and factor that an entry takes. */
+int32_t any_link_flow(void);
+uint32_t any_link_factor(void);
+
+/* Changes the kind of an image, or, where it has them, a byte of 148 to 155 or the ends; it may yet be one. */
+void damage_link(uint8_t *image, size_t length);
 
 /* A plan whose image passes the check, with windows of at most `widest` and a threshold that is mostly a multiple of 10,000; and
    its image with random prices in range. */

@@ -104,7 +104,7 @@ void any_opening(void)
     uint64_t from = seed;
     guxhamole_settings settings = any_settings();
     size_t places = spoil(&settings);
-    uint32_t want = independent_opening(&settings, places);
+    uint32_t want = independent_opening(&settings, independent_settings_link(&settings), places);
     int32_t *ring = (int32_t *)guarded(4 * places);
     for (size_t i = 0; i < places; i++)
         ring[i] = 7;
@@ -146,7 +146,7 @@ static void begin(struct started *started)
         independent_ledger_load(&started->ledger, image);
         kept = guxhamole_load(image, sizeof image, started->ring, started->places);
     } else {
-        independent_ledger_open(&started->ledger, &settings);
+        independent_ledger_open(&started->ledger, &settings, independent_settings_link(&settings));
         kept = guxhamole_open(settings, started->ring, started->places);
     }
     if (kept.number != 0)

@@ -74,7 +74,7 @@ guxhamole_drawn draw_alike(const struct draw *draw, struct independent_interval 
     uint32_t want = lent_refusal(&book, draw->lent), last = 0;
     memset(interval, 0, sizeof *interval);
     if (want == 0) {
-        last = independent_synthetic(book.regions, book.services, draw->seed, interval);
+        last = independent_synthetic(independent_shape_of(&book), draw->seed, interval);
         interval->entry = draw->entry;
         interval->day_kind = draw->day_kind;
     }

@@ -159,7 +159,7 @@ static void bound_seeds(struct draw *draw)
 {
     static const uint32_t bounds[] = {0, 63, 64, 1000, 1999, 2000, 2001, 2999, 3000, 19999, 20000, 32768, 59999, 60000, 63000, 64031,
                                       65535};
-    size_t markets = draw->book.services + (size_t)1, count = independent_draws(draw->book.regions, draw->book.services);
+    size_t markets = draw->book.services + (size_t)1, count = independent_draws(independent_shape_of(&draw->book));
     for (size_t at = 0; at < count; at++)
         for (size_t i = 0; i < sizeof bounds / sizeof *bounds; i++) {
             if (!in_part())

@@ -49,7 +49,7 @@ static void cut(size_t length)
 /* Every value in every byte of the head. */
 static void damage_head(size_t length)
 {
-    for (size_t at = 0; at < 148; at++) {
+    for (size_t at = 0; at < image_head(image); at++) {
         uint8_t kept = image[at];
         for (int value = 0; value < 256; value++) {
             image[at] = (uint8_t)value;
@@ -82,7 +82,7 @@ static void miscount(size_t length)
 static void prices(size_t length)
 {
     static const int32_t at[] = {-2147483647 - 1, -10000001, -10000000, -9999999, -1, 0, 1, 9999999, 10000000, 10000001, 2147483647};
-    size_t n = (length - 148) / 4;
+    size_t n = image_places(image, length);
     if (n == 0)
         return;
     memcpy(whole, image, length);

@@ -163,7 +163,7 @@ static void open_book(struct host *host)
     put(&calls, 4, (uint32_t)settings->floor);
     guxhamole_kept kept = guxhamole_open(*settings, host->ring, host->right.ring);
     host->opened = kept.number == GUXHAMOLE_ACCEPTED;
-    host->ruled &= kept.number == independent_opening(settings, host->right.ring);
+    host->ruled &= kept.number == independent_opening(settings, independent_settings_link(settings), host->right.ring);
     host->book = kept.book;
     put_answer(host, 14, OPENING, kept.number, kept.place);
 }

@@ -99,14 +99,19 @@ static void load(const uint8_t *bytes, size_t length, uint64_t from)
 
 static void images(void)
 {
-    static uint8_t image[148 + 4 * RING_MOST];
+    static uint8_t image[IMAGE_HEAD + 4 * RING_MOST];
     for (int i = 0; i < IMAGES / part; i++) {
         uint64_t from = seed;
         size_t length = any_image(WIDEST, image);
         load(image, length, from);
-        if (length > 148)
-            put_price(image, below((length - 148) / 4), below(2) ? 10000001 : -10000001);
+        size_t places = image_places(image, length);
+        if (places > 0)
+            put_price(image, below(places), below(2) ? 10000001 : -10000001);
         load(image, length, from);
+        if (make_links) {
+            damage_link(image, length);
+            load(image, length, from);
+        }
         image[4 + below(length - 4)] = (uint8_t)next();
         load(image, length, from);
         load(image, below(length), from);
