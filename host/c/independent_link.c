@@ -43,7 +43,7 @@ struct independent_link independent_book_link(const guxhamole_book *book)
 struct independent_shape independent_shape_with(unsigned regions, unsigned services, struct independent_link link)
 {
     int linked = independent_has_link(link);
-    struct independent_shape shape = {regions, services, linked, linked || LINKS_ON};
+    struct independent_shape shape = {regions, services, linked, linked ? 1 : LINKS_ON};
     return shape;
 }
 

@@ -66,6 +66,11 @@ static void damage(size_t length)
         image[4 + below(length - 4)] = (uint8_t)(below(3) ? below(4) : next());
     check("damaged", image, length);
     memcpy(image, whole, length);
+    if (make_links) {
+        damage_link(image, length);
+        check("damaged at its link, or of another kind", image, length);
+        memcpy(image, whole, length);
+    }
 }
 
 /* Another count for a region, its own or a higher one, within the window or just past it. */
