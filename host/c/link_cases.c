@@ -272,7 +272,8 @@ static void records(const struct link_code *code)
     link_hold(code->read(shape, bytes, 86, 0, &back, &after) == 40, "of another length");
     link_hold(code->read(without, bytes, 86, 72, &back, &after) == 40, "40 before 41");
     memcpy(bytes + 52, record, 14);
-    link_hold(code->read(shape, bytes, 86, 0, &back, &after) == 41 && code->read(without, bytes, 86, 0, &back, &after) == 41, "as a region");
+    link_hold(code->read(shape, bytes, 86, 0, &back, &after) == 41, "as a region");
+    link_hold(code->read(without, bytes, 86, 0, &back, &after) == 41, "as a region, without the link");
     code->write(shape, &interval, upward, bytes);
     memcpy(bytes + 72, bytes, 12);
     link_hold(code->read(shape, bytes, 86, 0, &back, &after) == 41, "a head in its place");

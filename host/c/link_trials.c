@@ -16,7 +16,8 @@ enum { ENTRIES = 24, IMAGE_MOST = IMAGE_HEAD + 4 * LINK_RING, RECORDS_MOST = 2 *
 
 /* What is counted, and how often it must come up in a whole run. */
 enum kind {
-    BOOKS, CLOSING, NOT_CLOSING, WITHOUT, BAD_ENDS, ENTERED, ROUND, TWO, CHANGED, REFUSED_17, RESTARTS_1, RESTARTS_2, BY_47, BY_23, BY_11,
+    BEGUN_1, BEGUN_2, BOOKS, CLOSING, NOT_CLOSING, WITHOUT, BAD_ENDS, ENTERED, ROUND, TWO, CHANGED, REFUSED_17,
+    RESTARTS_1, RESTARTS_2, BY_47, BY_23, BY_11,
     LOADED_1, LOADED_2, LINKED, RELABELLED, BY_24, BY_25, BY_26, BY_27, BY_16, READ, REWRITTEN, BY_40, BY_41, DRAWN, BILLS, KINDS
 };
 
@@ -24,6 +25,7 @@ static const struct {
     const char *name;
     long least;
 } kinds[KINDS] = {
+    {"begun from an image of kind 1", 300}, {"of kind 2", 1500},
     {"books", 2000}, {"whose link closes a ring", 1000}, {"joins two parts", 300}, {"without a link", 400}, {"ends refused by 20", 1200},
     {"entries", 40000}, {"with power round a ring", 3000}, {"by two routes", 3000}, {"prices changed", 100000}, {"refused by 17", 1500},
     {"restarts by kind 1", 800}, {"by kind 2", 3000}, {"refused by 47", 3000}, {"by 23", 1500}, {"by 11", 1000},
@@ -36,13 +38,14 @@ static long seen[KINDS];
 static struct independent_ledger ledger, other;
 
 /* An opening with any ends: 20 exactly where a table of all pairs has them not. */
-static void try_ends(const struct link_code *code, const guxhamole_settings *settings)
+static void try_ends(const struct link_code *code)
 {
+    const guxhamole_settings *settings = &ledger.settings;
     size_t places = GUXHAMOLE_RING(settings->regions, settings->services, settings->window);
     struct independent_link link = any_ends(settings->regions, settings->parents);
     int good = link_ends_good(settings->regions, settings->parents, link);
     seen[BAD_ENDS] += !good;
-    link_hold(code->opening(settings, link, places) == (good ? 0u : 20u), "an opening's ends");
+    link_hold((code->opening(settings, link, places) == 20) == !good, "an opening's ends");
 }
 
 /* One factor out of range, or more: 17 at the first place of those that are looked at. */
@@ -120,23 +123,42 @@ static void compare_reports(void)
         }
 }
 
-/* Opens both ledgers with settings and a link of their own. */
-static void begin(void)
+/* Begins both ledgers with settings and a link of their own: an opening, or an image of either kind that allows it, with any threshold. */
+static void begin(const struct link_code *code)
 {
-    struct independent_link link;
+    uint8_t image[BLANK_LINKED];
+    int32_t ring[LINK_RING];
+    guxhamole_book book;
+    struct independent_link link, loaded;
     link_tally.from = seed;
     guxhamole_settings settings = link_settings(&link);
-    independent_ledger_open(&ledger, &settings, link);
-    independent_ledger_open(&other, &settings, link);
+    if (below(3) != 0) {
+        independent_ledger_open(&ledger, &settings, link);
+        independent_ledger_open(&other, &settings, link);
+        return;
+    }
+    int plain_kind = !independent_has_link(link) && below(2);
+    settings.threshold = threshold_beside(settings.threshold);
+    if (plain_kind)
+        blank_image(&settings, image);
+    else
+        blank_linked(&settings, link, image);
+    link_hold(code->load(image, plain_kind ? (size_t)BLANK_IMAGE : (size_t)BLANK_LINKED, 2, ring,
+                         GUXHAMOLE_RING(settings.regions, settings.services, settings.window), &book, &loaded).number == 0 &&
+                  loaded.from == link.from && loaded.to == link.to, "a blank image");
+    independent_ledger_load(&ledger, image);
+    independent_ledger_load(&other, image);
+    link_hold(ledger.link.from == link.from && ledger.link.to == link.to, "a ledger's link from an image");
+    seen[BEGUN_1] += plain_kind, seen[BEGUN_2] += !plain_kind;
 }
 
 void link_book_trial(const struct link_code *code)
 {
-    begin();
+    begin(code);
     struct independent_lengths lent = independent_entry_lengths(&ledger);
-    link_hold(code->opening(&ledger.settings, ledger.link, lent.ring) == 0, "an opening");
+    link_hold(code->opening(&ledger.settings, ledger.link, lent.ring) == (ledger.settings.threshold % 10000 != 0 ? 44u : 0u), "an opening");
     link_hold(!code->lengths_bad(&ledger, &lent), "an entry's lengths");
-    try_ends(code, &ledger.settings);
+    try_ends(code);
     seen[BOOKS]++;
     seen[independent_has_link(ledger.link) ? link_closes(&ledger) ? CLOSING : NOT_CLOSING : WITHOUT]++;
     for (int i = 0; i < ENTRIES && link_tally.failed == 0; i++) {
@@ -358,12 +380,23 @@ static void make_day(struct day *day, uint32_t region)
     }
 }
 
+/* 10, of a book's ends that no opening takes. */
+static void bill_ends(const struct link_code *code, struct independent_bill bill, int32_t *work)
+{
+    bill.link = any_ends(ledger.settings.regions, ledger.settings.parents);
+    if (link_ends_good(ledger.settings.regions, ledger.settings.parents, bill.link))
+        return;
+    bill.work_length++;
+    struct independent_billed billed = code->bill(&bill, NULL, work);
+    link_hold(billed.number == 10 && !billed.played, "a bill's ends");
+}
+
 void link_bill_trial(const struct link_code *code)
 {
     static struct day day;
     static int32_t ring[LINK_RING], work[LINK_RING];
     guxhamole_book book;
-    begin();
+    begin(code);
     draw(code);
     for (uint64_t entries = below(6); entries > 0; entries--) {
         struct independent_interval interval = link_interval(&ledger);
@@ -386,6 +419,7 @@ void link_bill_trial(const struct link_code *code)
         billed = code->bill(&bill, NULL, work);
         link_hold(billed.number == 17 && billed.place == ledger.settings.regions && billed.accepted == line, "a bill's 17 of the link");
     }
+    bill_ends(code, bill, work);
     seen[BILLS]++;
 }
 

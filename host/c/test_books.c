@@ -5,13 +5,26 @@
 
 #include <string.h>
 
-void blank_image(const guxhamole_settings *settings, uint8_t *image)
+static struct plan blank_plan(const guxhamole_settings *settings)
 {
     struct plan plan = plain();
     plan.regions = settings->regions, plan.services = settings->services, plan.window = settings->window;
     plan.halves = settings->halves, plan.position = settings->first, plan.threshold = settings->threshold;
     plan.cap = settings->cap, plan.floor = settings->floor;
     memcpy(plan.parents, settings->parents, sizeof plan.parents);
+    return plan;
+}
+
+void blank_image(const guxhamole_settings *settings, uint8_t *image)
+{
+    struct plan plan = blank_plan(settings);
+    lay_out(&plan, 0, image);
+}
+
+void blank_linked(const guxhamole_settings *settings, struct independent_link link, uint8_t *image)
+{
+    struct plan plan = blank_plan(settings);
+    plan.kind = 2, plan.link = link;
     lay_out(&plan, 0, image);
 }
 

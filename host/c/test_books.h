@@ -2,12 +2,15 @@
 #ifndef TEST_BOOKS_H
 #define TEST_BOOKS_H
 
-#include "guxhamole.h"
+#include "independent_link.h"
 
-enum { BLANK_IMAGE = 148 };
+enum { BLANK_IMAGE = 148, BLANK_LINKED = 156 };
 
 /* The image of the settings' book with no entries, so with nothing counted, and no period. The threshold may be any. */
 void blank_image(const guxhamole_settings *settings, uint8_t *image);
+
+/* The same of kind 2, with an additional link or none. */
+void blank_linked(const guxhamole_settings *settings, struct independent_link link, uint8_t *image);
 
 int same_book(const guxhamole_book *one, const guxhamole_book *other);
 int is_closed(const guxhamole_book *book);
