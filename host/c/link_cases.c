@@ -260,7 +260,7 @@ static void records(const struct link_code *code)
     static const uint32_t given[] = {0, 11000, 11000, 11000};
     struct independent_shape shape = {3, 0, 1, 1}, without = {3, 0, 0, 1};
     struct independent_interval interval = {0, 0, {100000, 90000, 85000}, {0}, {0}, {0}}, back;
-    uint8_t bytes[200];
+    uint8_t bytes[200] = {0};
     size_t after = 0;
     set_places(&interval, flows, given);
     link_hold(code->write(shape, &interval, upward, bytes) == 86 && memcmp(bytes + 72, record, 14) == 0, "the record of the link");
