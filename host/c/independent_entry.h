@@ -1,5 +1,5 @@
-/* An entry in plain C, written from documents 01 and 02 alone and sharing nothing with the proved code: what refuses it, book and
-   lengths aside, and what it publishes, limits over links too. The ledger tells what was entered before. */
+/* An entry in plain C, written from documents 01 and 02 alone and sharing nothing with the proved code: what refuses it, the book
+   aside, and what it publishes, limits over links too, the additional one among them. The ledger tells what was entered before. */
 #ifndef INDEPENDENT_ENTRY_H
 #define INDEPENDENT_ENTRY_H
 

@@ -116,6 +116,7 @@ struct independent_interval link_numbers(struct independent_shape shape)
     return interval;
 }
 
+/* Filled once, from the end: no number is 0, so that the first place tells whether it was. */
 const int32_t *link_schedule(void)
 {
     static int32_t schedule[LINK_SCHEDULE];
