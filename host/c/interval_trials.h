@@ -5,7 +5,7 @@
 
 #include "interval_slices.h"
 
-enum { INTERVAL_MOST = GUXHAMOLE_INTERVAL(8, 10) + 14, TRIAL_BYTES = INTERVAL_MOST + 100 };
+enum { INTERVAL_MOST = GUXHAMOLE_INTERVAL(8, 10) + (LINKS_ON ? 14 : 0), TRIAL_BYTES = INTERVAL_MOST + 100 };
 
 /* What the records are: the interval's, in number order or in another, or whatever damage made of them. */
 enum form { UPWARD, SHUFFLED, DAMAGED };
