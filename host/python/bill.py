@@ -10,6 +10,7 @@ import interval
 from arithmetic import Refused, nearest
 from book import LARGEST_SUM, counted, refuse_book, refuse_length
 from ledger import Ledger, Opening
+from link import ends_of
 
 MOST_ENERGY = 1_000_000_000
 
@@ -51,7 +52,8 @@ class Resumed(Ledger):
     def __init__(self, book, ring):
         days = 6 * book.halves
         shape = book.regions, book.services, book.window, book.halves, (book.position - book.entries) % days
-        super().__init__(Opening(*shape, book.parents[:], book.threshold, book.cap, book.floor), book.entries)
+        limits = book.threshold, book.cap, book.floor
+        super().__init__(Opening(*shape, book.parents[:], *limits, *ends_of(book)), book.entries)
         places = [(region, market) for region in range(book.regions) for market in range(self.markets)]
         self.before = {place: counted(book, ring, *place) for place in places}
         self.sums = {(region, market): book.sums[11 * region + market] for region, market in places}
@@ -103,7 +105,7 @@ def refuse_sums(ledger):
 def played(book, ledger, records, schedule):
     """The day, read and entered "interval by interval" from the records' first byte to their end; each is a call on the
     book that the one before handed back. The ledger goes on; every slice of an interval has its length."""
-    lengths = [book.regions * (book.services + 1)] + [book.regions] * 3
+    lengths = interval.lengths(book)
     at, entries, tables = 0, [], []
     while at != len(records):
         try:

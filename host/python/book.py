@@ -3,6 +3,7 @@ refuses beside them, by 11 and 22. The tests hold the library to it; it shares n
 
 from arithmetic import Refused, limits_good, price_good
 from ledger import MOST_ENTRIES, parents_good
+from link import ends_good, ends_of
 
 LARGEST_SUM = 20_160_000_000
 
@@ -19,6 +20,7 @@ def settings_good(book):
     return (
         1 <= book.regions <= 8 and book.services <= 10 and 1 <= book.window <= 2016 and 1 <= book.halves <= 48
         and parents_good(book.regions, book.parents[:])
+        and ends_good(book.regions, book.parents[:], ends_of(book))
         and 1 <= book.threshold <= 100_000_000_000 and limits_good(book.cap, book.floor)
         and book.entries <= MOST_ENTRIES and book.position < 6 * book.halves
     )

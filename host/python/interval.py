@@ -1,16 +1,17 @@
-"""Document 02's interval records (requests 2026-01 and 2026-08), from its words alone: a reader that goes from record
-to record, the reader of the earlier form, a writer and a rewriter. The tests hold the library to it; it shares no code
-with guxhamole.py."""
+"""Document 02's interval records (requests 2026-01, 2026-08 and 2026-10), from its words alone: a reader that goes from
+record to record, the reader of the earlier form, a writer and a rewriter. The tests hold the library to it; it shares
+no code with guxhamole.py."""
 
 from struct import Struct
 from typing import NamedTuple, Sequence
 
 from arithmetic import Refused
 from book import refuse_book
+from link import knows_links, link_of, places_of
 
 # "A record, little-endian throughout, is its length (4 bytes, the whole record), a two-byte kind, then the body."
 FRONT = Struct("<IH")
-HEAD, REGION = 16, 17
+HEAD, REGION, LINK = 16, 17, 18
 
 
 class Interval(NamedTuple):
@@ -26,8 +27,14 @@ class Interval(NamedTuple):
 
 def bodies(markets):
     """ "Kind 16 heads an interval: number (4), day kind (1), regions (1). Kind 17 is a region: region (1), mark (1),
-    flow (4), factor (4), M prices (4 each)." Flows and prices are signed. """
-    return {HEAD: Struct("<IBB"), REGION: Struct(f"<BBiI{markets}i")}
+    flow (4), factor (4), M prices (4 each)." The additional link's flow and factor "are a kind 18, flow (4) and factor
+    (4)". Flows and prices are signed. """
+    return {HEAD: Struct("<IBB"), REGION: Struct(f"<BBiI{markets}i"), LINK: Struct("<iI")}
+
+
+def known(book, kind):
+    """The body of a kind that is known in this book: 18 in every one that may have a link."""
+    return bodies(book.services + 1).get(kind) if kind != LINK or knows_links(book) else None
 
 
 def record(markets, kind, *fields):
@@ -36,18 +43,26 @@ def record(markets, kind, *fields):
 
 
 def records(book, interval):
-    """The head, and the region records upward."""
+    """The head, the region records upward, and where the book has the link its own "after the last region". """
     markets = book.services + 1
     yield record(markets, HEAD, interval.number, interval.day_kind, book.regions)
     for region in range(book.regions):
         prices = interval.prices[region * markets:(region + 1) * markets]
         others = interval.marks[region], interval.flows[region], interval.factors[region]
         yield record(markets, REGION, region, *others, *prices)
+    if link_of(book):
+        yield record(markets, LINK, interval.flows[book.regions], interval.factors[book.regions])
 
 
-def refuse_lengths(book, lengths):
-    """11, of the slices that an entry has too: R × M prices, R marks, R flows, R factors."""
-    if list(lengths) != [book.regions * (book.services + 1)] + [book.regions] * 3:
+def lengths(book):
+    """Those of the slices that an entry has too: R × M prices, R marks, R flows, R factors, and one flow and factor more
+    where the book has the link."""
+    return [book.regions * (book.services + 1), book.regions, places_of(book), places_of(book)]
+
+
+def refuse_lengths(book, given):
+    """11, of these slices."""
+    if list(given) != lengths(book):
         raise Refused(11)
 
 
@@ -61,14 +76,14 @@ def write(book, interval, room):
     return written
 
 
-def take(given, place, markets, due):
+def take(given, place, book, due):
     """A due record's fields and the place after it. "40: a record missing or cut short, a length below 6 or, for a
     known kind, another than it has. 41: a kind .. that doesn't belong there." """
     left = given[place:]
     if len(left) < FRONT.size:
         raise Refused(40)
     length, kind = FRONT.unpack_from(left)
-    body = bodies(markets).get(kind)
+    body = known(book, kind)
     if length < FRONT.size or length > len(left) or (body is not None and length != FRONT.size + body.size):
         raise Refused(40)
     if kind != due:
@@ -79,51 +94,59 @@ def take(given, place, markets, due):
 def take_head(book, given, at):
     """Number, day kind, and the place of the first region record. "41: .. a region total in the head, that doesn't
     belong there." """
-    (number, day_kind, total), place = take(given, at, book.services + 1, HEAD)
+    (number, day_kind, total), place = take(given, at, book, HEAD)
     if total != book.regions:
         raise Refused(41)
     return number, day_kind, place
 
 
-def interval_of(number, day_kind, rows):
-    """Of region 0's row on: mark, flow, factor and prices."""
+def take_link(book, given, place):
+    """The additional link's flow and factor, and the place after their record: "read .. exactly when the book has the
+    link", and without it nothing behind the last region is looked at. """
+    return take(given, place, book, LINK) if link_of(book) else ((), place)
+
+
+def interval_of(number, day_kind, rows, link):
+    """Of region 0's row on: mark, flow, factor and prices; then the link's flow and factor, if there are any."""
     prices = [price for _, _, _, *prices in rows for price in prices]
     marks, flows, factors = ([row[field] for row in rows] for field in range(3))
-    return Interval(number, day_kind, prices, marks, flows, factors)
+    return Interval(number, day_kind, prices, marks, flows + [*link[:1]], factors + [*link[1:]])
 
 
-def read(book, lengths, given, at):
+def read(book, lent, given, at):
     """The interval at a place and the place after it. "Region records now follow their head as 0, 1 and so on"; "45: a
     region record that isn't the next region; in the reader it takes the place of 42". """
     refuse_book(book)
-    refuse_lengths(book, lengths)
+    refuse_lengths(book, lent)
     number, day_kind, place = take_head(book, given, at)
     rows = []
     while len(rows) < book.regions:
-        (region, *row), place = take(given, place, book.services + 1, REGION)
+        (region, *row), place = take(given, place, book, REGION)
         if region != len(rows):
             raise Refused(45)
         rows.append(row)
-    return interval_of(number, day_kind, rows), place
+    link, place = take_link(book, given, place)
+    return interval_of(number, day_kind, rows, link), place
 
 
 def read_earlier(book, given, at):
     """The same of the earlier form, for a sound book. "One head is followed by R region records, each region once, in
-    any order"; "42: a region from R up or given before." """
+    any order"; "42: a region from R up or given before." The link's record stands after the last of them. """
     number, day_kind, place = take_head(book, given, at)
     rows = {}
     for _ in range(book.regions):
-        (region, *row), place = take(given, place, book.services + 1, REGION)
+        (region, *row), place = take(given, place, book, REGION)
         if region >= book.regions or region in rows:
             raise Refused(42)
         rows[region] = row
-    return interval_of(number, day_kind, [rows[region] for region in range(book.regions)]), place
+    link, place = take_link(book, given, place)
+    return interval_of(number, day_kind, [rows[region] for region in range(book.regions)], link), place
 
 
 def length(book):
-    """An interval's bytes: a head and R region records of M prices each."""
-    head, region = (FRONT.size + body.size for body in bodies(book.services + 1).values())
-    return head + book.regions * region
+    """An interval's bytes: a head, R region records of M prices each, and the link's record where there is one."""
+    head, region, link = (FRONT.size + body.size for body in bodies(book.services + 1).values())
+    return head + book.regions * region + link_of(book) * link
 
 
 def rewrite(book, given, at, room):

@@ -1,19 +1,20 @@
 """Document 01's ledger machine P, from its words alone: "It keeps the settings of opening and, in order, the accepted
-entries and settings." An image's settings may stand for the opening's (request 2026-06 of document 02). It keeps no
-sum, count, position or period: each is worked out from the whole history whenever it is asked for. The tests hold the
-library to it; it shares no code with guxhamole.py."""
+entries and settings." An image's settings may stand for the opening's (request 2026-06 of document 02), and a book may
+have an additional link (request 2026-10). It keeps no sum, count, position or period: each is worked out from the whole
+history whenever it is asked for. The tests hold the library to it; it shares no code with guxhamole.py."""
 
 from fractions import Fraction
 from typing import NamedTuple, Sequence
 
 from arithmetic import Refused, held, limits_good, nearest, price_good
+from link import NONE, ends_good, ends_of, link_of, places_of
 
-NONE = 255
 MOST_ENTRIES = 10_000_000
 
 
 class Opening(NamedTuple):
-    """What a list of calls begins with; any record with these fields is one."""
+    """What a list of calls begins with; any record with these fields is one, and one without the last two, the ends of
+    the additional link, has none."""
 
     regions: int
     services: int
@@ -24,6 +25,8 @@ class Opening(NamedTuple):
     threshold: int
     cap: int
     floor: int
+    from_: int = NONE
+    to: int = NONE
 
 
 class Entry(NamedTuple):
@@ -52,11 +55,13 @@ def parents_good(regions, parents):
 
 
 def refuse_opening(opening):
-    """ "Open: 20 a setting; 11 ring length; 18 threshold; 19 cap or floor", and 44 "directly after 18". The ring has
-    its length. """
+    """ "Open: 20 a setting; 11 ring length; 18 threshold; 19 cap or floor", 44 "directly after 18", and "20 bad ends".
+    The ring has its length. """
     shape_good = 1 <= opening.regions <= 8 and 0 <= opening.services <= 10 and 1 <= opening.window <= 2016
     day_good = 1 <= opening.halves <= 48 and 0 <= opening.first < 6 * opening.halves
     if not shape_good or not day_good or not parents_good(opening.regions, opening.parents):
+        raise Refused(20)
+    if not ends_good(opening.regions, opening.parents, ends_of(opening)):
         raise Refused(20)
     refuse_threshold(opening.threshold)
     refuse_limits(opening.cap, opening.floor)
@@ -177,10 +182,10 @@ class Ledger:
 
     def unmarked(self, region, market, price):
         """An entry in which no region is marked: this market's price, every other one 0."""
-        regions, places = self.opening.regions, self.opening.regions * self.markets
+        regions, places, links = self.opening.regions, self.opening.regions * self.markets, places_of(self.opening)
         prices = [price if place == region * self.markets + market else 0 for place in range(places)]
         schedule = [0] * (places * 2 * self.opening.halves)
-        return Entry(self.marked + self.taken, 0, prices, [0] * regions, [0] * regions, [10_000] * regions, schedule)
+        return Entry(self.marked + self.taken, 0, prices, [0] * regions, [0] * links, [10_000] * links, schedule)
 
     def enter(self, *lent):
         """The count and the table of an accepted entry."""
@@ -194,9 +199,10 @@ class Ledger:
     def refuse_entry(self, entry):
         """ "11 any slice's length (schedule R × M × 2 × H); 12, 10,000,000 entries taken; 13 number not the next; 14
         kind; 15 mark not 0 or 1; 16 an unmarked region's energy beyond ±10,000,000 or service outside 0..10,000,000;
-        17 a factor out of range where the region has a parent" """
-        regions, prices = self.opening.regions, self.opening.regions * self.markets
-        lengths = [prices, regions, regions, regions, prices * 2 * self.opening.halves]
+        17 a factor out of range where the region has a parent"; "17 now covers" the link's "factor", in its "extra last
+        place" """
+        regions, prices, links = self.opening.regions, self.opening.regions * self.markets, places_of(self.opening)
+        lengths = [prices, regions, links, links, prices * 2 * self.opening.halves]
         if [len(numbers) for numbers in entry[2:]] != lengths:
             raise Refused(11)
         if self.marked + self.taken >= MOST_ENTRIES:
@@ -207,11 +213,15 @@ class Ledger:
             raise Refused(14)
         bad_marks = [region for region in range(regions) if entry.marks[region] not in (0, 1)]
         bad_prices = [] if bad_marks else self.bad_prices(entry)
-        bad_factors = [region for region in range(regions)
-                       if self.opening.parents[region] != NONE and not 10_000 <= entry.factors[region] <= 20_000]
+        bad_factors = [place for place, factor in enumerate(entry.factors)
+                       if self.links_by(place) and not 10_000 <= factor <= 20_000]
         for number, bad in ((15, bad_marks), (16, bad_prices), (17, bad_factors)):
             if bad:
                 raise Refused(number, bad[0])
+
+    def links_by(self, place):
+        """Whether the flow and factor at a place are a link's: a region's to its parent, or the additional one's."""
+        return place == self.opening.regions or self.opening.parents[place] != NONE
 
     def bad_prices(self, entry):
         return [place for place, price in enumerate(entry.prices)
@@ -253,35 +263,37 @@ class Ledger:
     def bind(self, entry, table, caps, floors):
         """Step 4: "The smallest cap limit and highest floor limit bind energy", and of the way there "the last step
         alone rounds to the cent" (request 2026-04 of document 02). """
-        links = self.links(entry)
+        links, every = self.links(entry), set(range(self.opening.regions))
         up = [(y, x, Fraction(10_000, factor)) for x, y, factor in links]
         down = [(x, y, Fraction(factor, 10_000)) for x, y, factor in links]
         for source, limit in caps.items():
-            for region, reached in self.travelled(source, limit, up):
+            for region, reached in self.travelled(source, limit, up, every - {source}):
                 table[region * self.markets] = min(table[region * self.markets], nearest(reached))
         for source, limit in floors.items():
-            for region, reached in self.travelled(source, limit, down):
+            for region, reached in self.travelled(source, limit, down, every - {source}):
                 table[region * self.markets] = max(table[region * self.markets], nearest(reached))
 
     def links(self, entry):
         """Where power goes from X to Y, and the factor: "Flow above 0 carries from a region to its parent, below 0 from
-        the parent, 0 not at all." """
+        the parent, 0 not at all." That of the additional link is "positive from the first named to the second". """
+        named = [(region, parent) for region, parent in enumerate(self.opening.parents[:self.opening.regions])]
+        if link_of(self.opening):
+            named.append(ends_of(self.opening))
         links = []
-        for region in range(self.opening.regions):
-            parent, flow = self.opening.parents[region], entry.flows[region]
-            if parent != NONE and flow != 0:
-                ends = (region, parent) if flow > 0 else (parent, region)
-                links.append((*ends, entry.factors[region]))
+        for (first, second), flow, factor in zip(named, entry.flows, entry.factors):
+            if second != NONE and flow != 0:
+                links.append((first, second, factor) if flow > 0 else (second, first, factor))
         return links
 
-    def travelled(self, region, limit, ways):
+    def travelled(self, region, limit, ways, left):
         """The region's limit and those that it gives, in cents and parts of one: "a cap limit c of Y gives X the limit
         c × 10,000 / factor, and a floor limit f of X gives Y f × factor / 10,000. Limits travel on over any number of
-        links". """
+        links", "over every route that carries power and visits no region twice, followed region by region with one
+        fewer left to visit each time". """
         reached = [(region, limit)]
         for start, end, ratio in ways:
-            if start == region:
-                reached += self.travelled(end, self.given(limit * ratio), ways)
+            if start == region and end in left:
+                reached += self.travelled(end, self.given(limit * ratio), ways, left - {end})
         return reached
 
     @staticmethod

@@ -2,13 +2,13 @@
 without entries and with no period marked, which may hold any threshold (request 2026-06 of document 02). For tests."""
 
 from guxhamole import Book
-from image import begun, image_of
+from image import begun, image_of, least_kind
 from ledger import Ledger
 
 
 def blank_image(settings):
     """The image of a book with these settings, without entries and with no period marked."""
-    return image_of(Ledger(settings))
+    return image_of(Ledger(settings), least_kind(settings))
 
 
 def with_threshold(image, threshold):

@@ -1,8 +1,9 @@
-"""Document 02's test load (request 2026-07), from its words alone: the interval that a seed draws for a book. The tests
-hold the library to it; it shares no code with guxhamole.py."""
+"""Document 02's test load (requests 2026-07 and 2026-10), from its words alone: the interval that a seed draws for a
+book. The tests hold the library to it; it shares no code with guxhamole.py."""
 
 from book import refuse_book
 from interval import Interval, refuse_lengths
+from link import places_of
 
 
 class Draws:
@@ -34,11 +35,12 @@ class Draws:
 
 def drawn(book, lengths, seed, number, day_kind):
     """The last s and the interval. "An interval draws its R × M prices, then flow and factor for each region"; "Marks
-    are 0; the caller gives book, number and day kind and gets the last s back; 10, then 11 over the filled slices". """
+    are 0; the caller gives book, number and day kind and gets the last s back; 10, then 11 over the filled slices"; "a
+    test load draws one more pair" for the additional link, at its "extra last place". """
     refuse_book(book)
     refuse_lengths(book, lengths)
     regions, draws = range(book.regions), Draws(seed)
     prices = [draws.price(market) for _ in regions for market in range(book.services + 1)]
-    links = [(draws.flow(), draws.factor()) for _ in regions]
+    links = [(draws.flow(), draws.factor()) for _ in range(places_of(book))]
     flows, factors = [flow for flow, _ in links], [factor for _, factor in links]
     return draws.s, Interval(number, day_kind, prices, [0 for _ in regions], flows, factors)

@@ -11,7 +11,7 @@ import guxhamole
 from arithmetic import Refused
 from guxhamole import Book, Refusal, Settings, check, replay
 from image import begun, image_of, settings_in
-from ledger import Ledger
+from ledger import Ledger, Opening
 from starts import blank_image, by_image, by_opening, with_threshold
 
 FILL = 7
@@ -247,7 +247,7 @@ class Starts(unittest.TestCase):
     def test_settings(self):
         """Each setting from its own place; "the next entry's position" is the first position."""
         settings = Settings(3, 2, 300, 47, 281, [255, 0, 1, *[255] * 5], 95_001, 61_000, -62_000)
-        self.assertEqual(settings_in(blank_image(settings)), tuple(vars(settings).values()))
+        self.assertEqual(settings_in(blank_image(settings)), Opening(**vars(settings)))
         book = Book.load(blank_image(settings))
         self.assertEqual((book.regions, book.services, book.window, book.halves), (3, 2, 300, 47))
         self.assertEqual((book.position, book.parents, book.threshold), (281, settings.parents, 95_001))
