@@ -39,10 +39,12 @@ def due_rewrite(book, records, at, room):
 
 
 def sorted_records(book, taken):
-    """An interval that was taken, its region records by their region, each as it stood; no field is looked into."""
+    """An interval that was taken, its region records by their region, each as it stood; no field is looked into. What
+    stands behind them is the additional link's."""
     size = 16 + 4 * (book.services + 1)
-    rows = [taken[at:at + size] for at in range(12, len(taken), size)]
-    return taken[:12] + b"".join(sorted(rows, key=lambda row: row[6]))
+    end = 12 + book.regions * size
+    rows = [taken[at:at + size] for at in range(12, end, size)]
+    return taken[:12] + b"".join(sorted(rows, key=lambda row: row[6])) + taken[end:]
 
 
 class Held:
@@ -115,11 +117,11 @@ def shaped(regions, services):
     return Book.open(Settings(regions, services, 1, 1, 0, [255] * 8, 90_000, 60_000, -60_000))
 
 
-def any_interval(dice, regions, services):
-    """Of any numbers that the types hold."""
+def any_interval(dice, regions, services, link=0):
+    """Of any numbers that the types hold; with one flow and factor more where there is the additional link."""
     def signed(count):
         return [dice.getrandbits(32) - 2**31 for _ in range(count)]
 
     return interval.Interval(dice.getrandbits(32), dice.getrandbits(8), signed(regions * (services + 1)),
-                             [dice.getrandbits(8) for _ in range(regions)], signed(regions),
-                             [dice.getrandbits(32) for _ in range(regions)])
+                             [dice.getrandbits(8) for _ in range(regions)], signed(regions + link),
+                             [dice.getrandbits(32) for _ in range(regions + link)])

@@ -111,8 +111,8 @@ READS = (
 
 
 def right_lengths(book):
-    """R × M prices, R marks, R flows, R factors."""
-    return [book.regions * (book.services + 1)] + [book.regions] * 3
+    """Those of the slices that a book's intervals have."""
+    return interval.lengths(book)
 
 
 def tripled(records):

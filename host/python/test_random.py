@@ -9,8 +9,10 @@ import arithmetic
 import guxhamole
 from arithmetic import Refused, nearest
 from guxhamole import Book, Refusal, Settings
-from image import image_of, refuse_image
+from image import PRICES, image_of, least_kind, refuse_image
 from ledger import NONE, Entry, Ledger
+from link import places_of
+from linked import LINKS, damaged_body, fields_of, linked, odd_ends, relabelled, with_fields
 from starts import by_image, by_opening
 
 SEED = 12
@@ -47,14 +49,15 @@ def outcome(call, *arguments):
         return "refused", refused.number, refused.place
 
 
-def random_settings(dice):
+def random_settings(dice, links=LINKS):
     regions, services = dice.choice((1, 1, 2, 3, 4, 8)), dice.choice((0, 0, 1, 2))
     halves = dice.choice((1, 1, 2))
     parents = [NONE] * 8
     for region in range(1, regions):
         parents[region] = dice.choice((NONE, *range(region), region - 1))
-    return Settings(regions, services, dice.choice(WINDOWS), halves, dice.randrange(6 * halves), parents,
-                    random_threshold(dice), *random_limits(dice))
+    settings = Settings(regions, services, dice.choice(WINDOWS), halves, dice.randrange(6 * halves), parents,
+                        random_threshold(dice), *random_limits(dice))
+    return linked(dice, settings, links)
 
 
 def random_threshold(dice):
@@ -77,10 +80,15 @@ def random_price(dice, energy):
     return dice.choice((price, price // 10_000 * 10_000))
 
 
-def bad_settings(dice):
-    """Settings of which one is outside its limits, or at them; in one in two the threshold is another one too."""
-    good = vars(random_settings(dice))
+def bad_settings(dice, links=LINKS):
+    """Settings of which one is outside its limits, or at them; in one in two the threshold is another one too. With
+    links, in one in three the ends are odd."""
+    settings = random_settings(dice, links)
+    good = fields_of(settings)
     thresholds = ("threshold", (*ODD_THRESHOLDS, near_hundreds(dice), near_hundreds(dice)))
+    if links and dice.random() < 0.33:
+        first, second = odd_ends(dice, settings)
+        return with_fields(settings, from_=first, to=second)
     name, values = dice.choice((
         ("regions", (0, 9, 255)), ("services", (11, 255)), ("window", (0, 2017, 65_535)), ("halves", (0, 49)),
         ("first", (6 * good["halves"], 65_535)), ("parents", ([0] + [NONE] * 7, [NONE] * 7 + [0], [NONE] + [1] * 7)),
@@ -88,7 +96,7 @@ def bad_settings(dice):
     ))
     if dice.random() < 0.5:
         good["threshold"] = dice.choice(thresholds[1])
-    return Settings(**{**good, name: dice.choice(values)})
+    return with_fields(settings, **{**good, name: dice.choice(values)})
 
 
 def random_prices(dice, settings):
@@ -106,17 +114,19 @@ def random_prices(dice, settings):
 
 
 def random_flows(dice, settings):
-    flows = [dice.choice((-2**31, -1, 0, 1, 2**31 - 1)) for _ in range(settings.regions)]
-    return dice.choice((flows, flows, [1] * settings.regions, [-1] * settings.regions))
+    places = places_of(settings)
+    flows = [dice.choice((-2**31, -1, 0, 1, 2**31 - 1)) for _ in range(places)]
+    return dice.choice((flows, flows, [1] * places, [-1] * places))
 
 
 def random_factors(dice, settings):
     """Each of its own, or those that tie with the cap or the floor, again and again."""
-    factors = [dice.choice((10_000, 10_001, 10_800, 15_000, 20_000)) for _ in range(settings.regions)]
+    places = places_of(settings)
+    factors = [dice.choice((10_000, 10_001, 10_800, 15_000, 20_000)) for _ in range(places)]
     ties = [ties[limit] for ties, limit in ((CAPS, settings.cap), (FLOORS, settings.floor)) if limit in ties]
     if not ties or dice.random() < 0.3:
         return factors
-    return [10_000, *dice.choice(ties) * 8][:settings.regions]
+    return [10_000, *dice.choice(ties) * 8][:places]
 
 
 def random_entry(dice, settings, number):
@@ -148,9 +158,12 @@ def damage(dice, entry):
         entry[part][dice.randrange(len(entry[part]))] = dice.choice(bad[part - 2])
 
 
-def damaged_image(dice, image):
-    """An image with a byte changed, cut, or longer; or with a price out of range."""
-    way = dice.randrange(6)
+def damaged_image(dice, image, links=LINKS):
+    """An image with a byte changed, cut, or longer; or with a price out of range. With links, in one in two it is
+    relabelled, or damaged where kind 2 has the ends."""
+    if links and dice.random() < 0.5:
+        return damaged_body(dice, image) if image[4] == 2 and dice.random() < 0.7 else relabelled(dice, image)
+    way, prices = dice.randrange(6), PRICES[image[4]]
     if way == 0:
         return image[:dice.randrange(len(image))]
     if way == 1:
@@ -159,8 +172,8 @@ def damaged_image(dice, image):
     if way == 2:
         damaged += b"\0\0\0\0"
         damaged[0:4] = len(damaged).to_bytes(4, "little")
-    elif way == 3 and len(image) > 148:
-        place = 148 + 4 * dice.randrange((len(image) - 148) // 4)
+    elif way == 3 and len(image) > prices:
+        place = prices + 4 * dice.randrange((len(image) - prices) // 4)
         damaged[place:place + 4] = dice.choice((10_000_001, -1, -10_000_001)).to_bytes(4, "little", signed=True)
     else:
         count, period, field = dice.randrange(44, 60), dice.randrange(60, 148), dice.randrange(5, 60)
@@ -226,7 +239,7 @@ class Calls:
             self.met["begun by an image"] += 1
         else:
             self.ledger = Ledger(self.settings, 10_000_000 - self.dice.randint(0, 9))
-            self.book = Book.load(image_of(self.ledger))
+            self.book = Book.load(image_of(self.ledger, least_kind(self.settings)))
 
     def on_both(self, name, *arguments):
         """A call of the book and of the ledger; refused, it leaves book and ring as they were."""

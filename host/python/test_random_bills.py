@@ -14,7 +14,7 @@ from bill import MOST_ENERGY, Resumed
 from book import counted
 from guxhamole import Book
 from held_bill import FILL, MARGIN, columns, library_bill, method_bill
-from image import image_of
+from image import image_of, least_kind
 from interval import Interval, records
 from ledger import Ledger
 from mistakes import FORGERIES, mistaken, right_line, spoiled
@@ -64,7 +64,7 @@ class Bills:
             self.book, self.ledger = by_image(self.settings)
         else:
             self.ledger = Ledger(self.settings, 10_000_000 - self.dice.randint(0, 9))
-            self.book = Book.load(image_of(self.ledger))
+            self.book = Book.load(image_of(self.ledger, least_kind(self.settings)))
 
     def entry(self, number):
         """A random one by the limits and the threshold that are set now."""
@@ -123,7 +123,7 @@ class Bills:
         pieces = [piece for each in intervals for piece in records(self.settings, each)]
         if self.dice.random() < 0.1:
             return b"".join(pieces) + bytes(self.dice.randint(1, 12))
-        return b"".join(damaged(self.dice, self.settings.regions, pieces))
+        return b"".join(damaged(self.dice, self.settings, pieces))
 
     def lines(self, region):
         """A bill that is right, then left or not. Beside a published price: the entry's, and those of other regions and

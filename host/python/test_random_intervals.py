@@ -12,6 +12,8 @@ from guxhamole import Book, Refusal, Settings
 from held import Held, any_interval
 from interval import Interval
 from ledger import NONE
+from link import link_of
+from linked import LINKS, damaged_links, linked, pieces_of
 from starts import by_opening
 from test_intervals import due_write, library_write, number_of, right_lengths
 from test_random import outcome, random_entry
@@ -28,7 +30,7 @@ ENDS = {
     "cap": (0, 1, 10_000_000, 10_000_001), "floor": (0, -1, -10_000_000, -10_000_001),
     "entries": (0, 1, 2, 10_000_000, 10_000_001), "position": (0, 5, 6, 288), "counts": (0, 1, 2, 3, 4),
     "nexts": (0, 1, 2, 3), "sums": (0, 1, LARGEST_SUM, LARGEST_SUM + 1, -LARGEST_SUM, -LARGEST_SUM - 1),
-    "marks": (0, 1, 2, 255),
+    "marks": (0, 1, 2, 255), "from_": (0, 1, 2, 7, 8, 254, 255), "to": (0, 1, 2, 7, 8, 254, 255),
 }
 # How often each must be met: an answer, what the rewriter says to one of the reader's, and the rest.
 MET = {
@@ -42,18 +44,19 @@ MET = {
 }
 
 
-def random_settings(dice):
+def random_settings(dice, links=LINKS):
     regions = dice.randint(1, 8)
     parents = [dice.choice((NONE, *range(region))) if region < regions else NONE for region in range(8)]
-    return Settings(regions, dice.randint(0, 10), dice.choice((1, 2, 3)), 1, dice.randrange(6), parents, 90_000, 60_000,
-                    -60_000)
+    settings = Settings(regions, dice.randint(0, 10), dice.choice((1, 2, 3)), 1, dice.randrange(6), parents, 90_000,
+                        60_000, -60_000)
+    return linked(dice, settings, links)
 
 
 def random_interval(dice, settings, number):
     """One that an entry takes, or, as often, any numbers of their types."""
     if dice.random() < 0.5:
         return Interval(*random_entry(dice, settings, number)[:6])
-    drawn = any_interval(dice, settings.regions, settings.services)
+    drawn = any_interval(dice, settings.regions, settings.services, link_of(settings))
     return drawn._replace(number=dice.choice((number, drawn.number)), day_kind=dice.choice((0, 1, drawn.day_kind)))
 
 
@@ -83,8 +86,11 @@ def with_region(dice, regions, piece):
     return piece[:6] + bytes([dice.choice((regions, 255, dice.randrange(regions)))]) + piece[7:]
 
 
-def damaged(dice, regions, pieces):
-    """Records of which one is wrong, cut, missing, given twice, or where another one was."""
+def damaged(dice, settings, pieces, links=LINKS):
+    """Records of which one is wrong, cut, missing, given twice, or where another one was. With links, in one in three it
+    is the additional link's, or one like it where there is none."""
+    if links and dice.random() < 0.33:
+        return damaged_links(dice, pieces)
     chosen = dice.randrange(len(pieces)) if pieces else 0
     before, piece, after = pieces[:chosen], pieces[chosen:chosen + 1], pieces[chosen + 1:]
     way = dice.randrange(10)
@@ -95,15 +101,15 @@ def damaged(dice, regions, pieces):
     if way == 2:
         return dice.sample(pieces, len(pieces))
     change = dice.choice((with_byte, with_byte, with_front, with_more, with_region, with_region))
-    return before + [change(dice, regions, part) for part in piece if part] + after
+    return before + [change(dice, settings.regions, part) for part in piece if part] + after
 
 
-def random_place(dice, regions, pieces):
+def random_place(dice, settings, pieces):
     """Where an interval begins, and also any other place, beyond the end, and where 32 or 64 bits would wrap."""
     starts = [0, *accumulate(len(piece) for piece in pieces)]
     end, way = starts[-1], dice.randrange(20)
     if way < 14:
-        return dice.choice(starts[:-1:regions + 1] or [0])
+        return dice.choice(starts[:-1:pieces_of(settings)] or [0])
     if way < 16:
         return dice.choice(starts)
     wrapped = 2**64 - max(1, end - dice.choice(starts))  # a record's place, were the records lent from their end on
@@ -120,7 +126,7 @@ def damaged_book(dice, book):
         record[dice.choice((0, 1, dice.randrange(72), dice.randrange(len(record))))] = dice.randrange(256)
     changed = type(book).from_buffer_copy(record)
     for _ in range(dice.randint(1, 3) if way >= 4 else 0):
-        name = dice.choice(list(ENDS))
+        name = dice.choice([name for name in ENDS if hasattr(changed, name)])
         field, value = getattr(changed, name), dice.choice(ENDS[name])
         if isinstance(field, int):
             setattr(changed, name, value)
@@ -173,10 +179,11 @@ class Calls:
             fresh = random_interval(self.dice, self.settings, number)
             self.feed.append(self.dice.choice(self.feed) if self.feed and self.dice.random() < 0.3 else fresh)
             head, *regions = upward = list(interval.records(self.settings, self.feed[-1]))
+            behind = [regions.pop()] if link_of(self.settings) else []
             if self.dice.random() < 0.5:
                 self.dice.shuffle(regions)
-            self.upward.append([head, *regions] == upward)
-            self.pieces += [head, *regions]
+            self.upward.append([head, *regions, *behind] == upward)
+            self.pieces += [head, *regions, *behind]
 
     def enter_all(self):
         """What was rewritten, in whatever order its regions stood, is read and entered as what was written; as they
@@ -205,7 +212,7 @@ class Calls:
     def damaged_pieces(self):
         pieces = self.pieces
         for _ in range(self.dice.choice((0, 1, 1, 2))):
-            pieces = damaged(self.dice, self.settings.regions, pieces)
+            pieces = damaged(self.dice, self.settings, pieces)
         return pieces
 
     def read(self):
@@ -213,7 +220,7 @@ class Calls:
         if dice.random() < 0.05:
             place = dice.randrange(4)
             lengths[place] = max(0, lengths[place] + dice.choice((-100, -1, 1, 2)))
-        records, at = b"".join(pieces), random_place(dice, self.settings.regions, pieces)
+        records, at = b"".join(pieces), random_place(dice, self.settings, pieces)
         number = self.held.read(book, records, at, lengths)[0]
         self.calls += 1
         self.rewrite(book, records, at, number)
@@ -265,7 +272,7 @@ class Calls:
 
     def go_through(self):
         pieces = self.damaged_pieces()
-        records, at = b"".join(pieces), random_place(self.dice, self.settings.regions, pieces)
+        records, at = b"".join(pieces), random_place(self.dice, self.settings, pieces)
         found = collected(self.book.intervals(records, at))
         self.test.assertEqual(found, collected(due_intervals(self.book._book, records, at)), (self.settings, at))
         self.met[f"{len(found)} gone through"] += 1

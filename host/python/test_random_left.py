@@ -8,7 +8,7 @@ from dataclasses import replace
 
 from book import LARGEST_SUM
 from guxhamole import Book
-from image import image_of
+from image import image_of, least_kind
 from ledger import Entry, Ledger
 from starts import by_image, by_opening, with_threshold
 from test_left import due_left, entered, first_above, library_left
@@ -128,7 +128,7 @@ class Questions:
             self.met["begun by an image"] += 1
         else:
             self.ledger = Ledger(self.settings, 10_000_000 - self.dice.randint(0, 2 * window))
-            self.book = Book.load(image_of(self.ledger))
+            self.book = Book.load(image_of(self.ledger, least_kind(self.settings)))
 
     def enter(self):
         """On both, or refused by both; what an entry publishes is test_random.py's to compare."""

@@ -10,6 +10,8 @@ from itertools import product
 import synthetic
 from guxhamole import Book, Settings
 from ledger import NONE, Ledger
+from link import link_of
+from linked import LINKS, linked
 from starts import blank_image
 from test_intervals import right_lengths
 from test_random import outcome
@@ -31,9 +33,11 @@ MET = {
 SHOWN = {"entered": 600, "begun": 100, "ended": 50, "bound": 50, "highest price": 50, "turned round": 300}
 
 
-def random_settings(dice, regions, services):
+def random_settings(dice, regions, services, links=LINKS):
     parents = [dice.choice((NONE, *range(region))) if region < regions else NONE for region in range(8)]
-    return Settings(regions, services, dice.choice((1, 2, 3)), 1, dice.randrange(6), parents, 10_000, 60_000, -60_000)
+    settings = Settings(regions, services, dice.choice((1, 2, 3)), 1, dice.randrange(6), parents, 10_000, 60_000,
+                        -60_000)
+    return linked(dice, settings, links)
 
 
 def turning(dice):
@@ -144,7 +148,7 @@ class Draws:
         self.open(regions, services)
         for seed in EDGES:
             self.draw(seed)
-        for place in range(regions * (services + 3)):
+        for place in range(regions * (services + 3) + 2 * link_of(self.settings)):
             for d in (63, 64, turning(self.dice)):
                 self.draw(later(self.dice, d, place))
         for _ in range(40):
