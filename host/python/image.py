@@ -35,9 +35,10 @@ def image_of(ledger, kind=1):
             prices += ledger.counted(region, market, last)
     setting = ledger.settings[-1]
     fields = [
-        (PRICES[kind] + 4 * len(prices), 4), (kind, 2), (opening.regions, 1), (opening.services, 1), (opening.window, 2),
-        (opening.halves, 1), (0, 1), *((parent, 1) for parent in opening.parents), (ledger.marked + ledger.taken, 4),
-        (ledger.position(ledger.taken), 2), (0, 2), (setting.threshold, 8), (setting.cap, 4), (setting.floor, 4),
+        (PRICES[kind] + 4 * len(prices), 4), (kind, 2), (opening.regions, 1), (opening.services, 1),
+        (opening.window, 2), (opening.halves, 1), (0, 1), *((parent, 1) for parent in opening.parents),
+        (ledger.marked + ledger.taken, 4), (ledger.position(ledger.taken), 2), (0, 2), (setting.threshold, 8),
+        (setting.cap, 4), (setting.floor, 4),
         *((count, 2) for count in counts), *((period, 1) for period in periods), *ends_fields(opening, kind),
         *((price, 4) for price in prices),
     ]

@@ -55,8 +55,8 @@ def records(book, interval):
 
 
 def lengths(book):
-    """Those of the slices that an entry has too: R × M prices, R marks, R flows, R factors, and one flow and factor more
-    where the book has the link."""
+    """Those of the slices that an entry has too: R × M prices, R marks, R flows, R factors, and of the last two one
+    more where the book has the link."""
     return [book.regions * (book.services + 1), book.regions, places_of(book), places_of(book)]
 
 

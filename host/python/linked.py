@@ -1,7 +1,8 @@
-"""Settings, images and records with the additional link (request 2026-10 of document 02), drawn at random. For the tests
+"""Settings, images and records with the additional link (request 2026-10 of document 02), drawn at random. For tests
 that draw books: those that hold the library draw no link as long as LINKS says so, and those of the independent code
 alone ask for links."""
 
+from dataclasses import fields
 from itertools import permutations
 
 from guxhamole import Settings
@@ -11,6 +12,7 @@ from link import NONE, ends_good, link_of
 
 LINKS = False  # whether the library's books are drawn with links
 BODY = 148  # where the bytes of kind 2 begin that kind 1 has not
+NAMES = {field.name for field in fields(Settings)}
 
 
 def fields_of(settings):
@@ -18,10 +20,15 @@ def fields_of(settings):
     return dict(vars(settings)) if isinstance(settings, Settings) else settings._asdict()
 
 
-def with_fields(settings, **fields):
-    """The same but for these. The library's settings have no place for the ends yet: with ends they are an opening."""
-    every = {**fields_of(settings), **fields}
-    return Opening(**every) if "to" in every else Settings(**every)
+def with_fields(settings, **changes):
+    """The same but for these. As long as the library's settings have no place for the ends, those with ends are an
+    opening."""
+    every = {**fields_of(settings), **changes}
+    return Settings(**every) if set(every) <= NAMES else Opening(**every)
+
+
+def opening_of(settings):
+    return Opening(**fields_of(settings))
 
 
 def with_ends(settings, ends):
@@ -83,8 +90,8 @@ def of_length(image, end):
 
 def relabelled(dice, image):
     """The other kind, or one that there is not."""
-    kind = image[4]
-    return changed(image, 4, *dice.choice(((3 - kind, 0), (3 - kind, 0), (3, 0), (0, 0), (kind, 1), (255, 255))))
+    other = 1 if image[4] == 2 else 2
+    return changed(image, 4, *dice.choice(((other, 0), (other, 0), (3, 0), (0, 0), (image[4], 1), (255, 255))))
 
 
 def damaged_body(dice, image):
@@ -95,7 +102,7 @@ def damaged_body(dice, image):
         return relabelled(dice, image) if dice.random() < 0.3 else image
     if way < 3:
         return changed(image, dice.randrange(BODY + 2, BODY + 8), dice.choice((0, 1, 128, 254, 255)))
-    regions, parents = image[6], image[12:20]
+    regions, parents = max(1, min(8, image[6])), image[12:20]
     if way < 5:
         return changed(image, BODY + dice.randrange(2), dice.choice((NONE, regions, dice.randrange(8), 254)))
     shape = Opening(regions, 0, 1, 1, 0, parents, 1, 1, -1)
@@ -106,7 +113,8 @@ def damaged_links(dice, pieces):
     """Records of which the link's is missing, given twice, elsewhere or of another length, or stands where none is due;
     where there is none, one is made."""
     found = [place for place, piece in enumerate(pieces) if piece[4:6] == bytes([LINK, 0])]
-    any_place, piece = dice.randint(0, len(pieces)), FRONT.pack(14, LINK) + bytes(dice.randrange(256) for _ in range(8))
+    any_place, size = dice.randint(0, len(pieces)), dice.choice((14, 14, 14, 12, 20))
+    piece = FRONT.pack(size, LINK) + bytes(dice.randrange(256) for _ in range(size - 6))
     if not found:
         return pieces[:any_place] + [piece] + pieces[any_place:]
     place = dice.choice(found)

@@ -18,6 +18,7 @@ from starts import by_image, by_opening
 SEED = 12
 CALLS = 20_000
 WINDOWS = (1, 2, 3, 4)
+REGIONS = (1, 1, 2, 3, 4, 8)
 # Every refusal that a `Book` can meet: it has the ring's and the buffers' lengths right (23, 33), is never closed or
 # damaged (10), and its ring is its own (22).
 MET = (11, 12, 13, 14, 15, 16, 17, 18, 19, 20, 21, 24, 25, 26, 27, 30, 31, 32, 44)
@@ -49,8 +50,8 @@ def outcome(call, *arguments):
         return "refused", refused.number, refused.place
 
 
-def random_settings(dice, links=LINKS):
-    regions, services = dice.choice((1, 1, 2, 3, 4, 8)), dice.choice((0, 0, 1, 2))
+def random_settings(dice, links=LINKS, regions=REGIONS):
+    regions, services = dice.choice(regions), dice.choice((0, 0, 1, 2))
     halves = dice.choice((1, 1, 2))
     parents = [NONE] * 8
     for region in range(1, regions):
@@ -88,7 +89,8 @@ def bad_settings(dice, links=LINKS):
     thresholds = ("threshold", (*ODD_THRESHOLDS, near_hundreds(dice), near_hundreds(dice)))
     if links and dice.random() < 0.33:
         first, second = odd_ends(dice, settings)
-        return with_fields(settings, from_=first, to=second)
+        threshold = dice.choice((settings.threshold, settings.threshold, 0, near_hundreds(dice)))
+        return with_fields(settings, from_=first, to=second, threshold=threshold)
     name, values = dice.choice((
         ("regions", (0, 9, 255)), ("services", (11, 255)), ("window", (0, 2017, 65_535)), ("halves", (0, 49)),
         ("first", (6 * good["halves"], 65_535)), ("parents", ([0] + [NONE] * 7, [NONE] * 7 + [0], [NONE] + [1] * 7)),
@@ -163,7 +165,7 @@ def damaged_image(dice, image, links=LINKS):
     relabelled, or damaged where kind 2 has the ends."""
     if links and dice.random() < 0.5:
         return damaged_body(dice, image) if image[4] == 2 and dice.random() < 0.7 else relabelled(dice, image)
-    way, prices = dice.randrange(6), PRICES[image[4]]
+    way, prices = dice.randrange(6), PRICES.get(image[4], 148)
     if way == 0:
         return image[:dice.randrange(len(image))]
     if way == 1:

@@ -87,8 +87,8 @@ def with_region(dice, regions, piece):
 
 
 def damaged(dice, settings, pieces, links=LINKS):
-    """Records of which one is wrong, cut, missing, given twice, or where another one was. With links, in one in three it
-    is the additional link's, or one like it where there is none."""
+    """Records of which one is wrong, cut, missing, given twice, or where another one was. With links, in one in three
+    it is the additional link's, or one like it where there is none."""
     if links and dice.random() < 0.33:
         return damaged_links(dice, pieces)
     chosen = dice.randrange(len(pieces)) if pieces else 0
