@@ -5,8 +5,8 @@ use generator::calls::ring_length;
 use independent::book::Book;
 use independent::image::Fields;
 use independent::ledger::Entry;
-use independent::rules::NO_PARENT;
-use independent::{Answer, Call, Ledger, Opening, Values};
+use independent::rules::{NO_END, NO_PARENT};
+use independent::{Answer, Call, Kind, Known, Ledger, Opening, Values};
 
 /// Unlinked regions, first position 0, threshold 90,000, limits ±60,000.
 pub fn opening(regions: u32, services: u32, window: u32, halves: u32) -> Opening {
@@ -17,6 +17,8 @@ pub fn opening(regions: u32, services: u32, window: u32, halves: u32) -> Opening
         halves,
         first: 0,
         parents: [NO_PARENT; 8],
+        from: NO_END,
+        to: NO_END,
         threshold: 90_000,
         cap: 60_000,
         floor: -60_000,
@@ -63,8 +65,8 @@ pub fn open(opening: &Opening) -> Ledger {
 
 /// The ledger that begins with the image of a book of these settings, over a ring of the right length.
 pub fn begin(settings: &Opening) -> Ledger {
-    let image = Fields::blank(settings).bytes();
-    let begun = Ledger::begin(&image, ring_length(settings));
+    let image = Fields::blank(settings).bytes_by(Kind::holding(&settings.shape()));
+    let begun = Ledger::begin_by(Known::Link, &image, ring_length(settings));
     begun.expect("a valid image").expect("no entries")
 }
 
@@ -76,8 +78,8 @@ pub fn plain(ledger: &Ledger, prices: &[i32]) -> Entry {
         kind: 0,
         prices: prices.to_vec(),
         marks: vec![0; shape.regions],
-        flows: vec![0; shape.regions],
-        factors: vec![10_000; shape.regions],
+        flows: vec![0; shape.flows()],
+        factors: vec![10_000; shape.flows()],
         schedule: vec![0; shape.schedule()],
     }
 }

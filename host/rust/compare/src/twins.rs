@@ -5,6 +5,7 @@ use crate::books;
 use generator::{calls, images, Random};
 use independent::ledger::Entry;
 use independent::rules::{in_hundreds, Shape};
+use independent::Kind as ImageKind;
 use independent::{Answer, Call, Ledger, Opening};
 use std::ops::Range;
 
@@ -190,13 +191,15 @@ fn other_opening(random: &mut Random, like: &Opening, region: usize) -> Opening 
         false => random.between(region as i64 + 1, 8) as u32,
     };
     let (cap, floor) = calls::limits(random);
-    Opening {
+    let parents = calls::parents(random, regions);
+    let other = Opening {
         regions,
-        parents: calls::parents(random, regions),
+        parents,
         cap,
         floor,
         ..*like
-    }
+    };
+    calls::maybe_linked(random, other)
 }
 
 /// A refused call of any kind.
@@ -289,7 +292,11 @@ fn surely_accepted(ledger: &Ledger, kind: Kind) -> Call {
         Kind::Threshold => Call::Threshold(10_000),
         Kind::Limits => Call::Limits(1, -1),
         Kind::Report => Call::Report(0, 0),
-        Kind::Restart => Call::Restart(ledger.image().len(), shape.ring()),
+        Kind::Restart => Call::Restart(
+            ImageKind::holding(shape),
+            ledger.image().len(),
+            shape.ring(),
+        ),
     }
 }
 
@@ -300,6 +307,6 @@ fn surely_refused(ledger: &Ledger, kind: Kind) -> Call {
         Kind::Threshold => Call::Threshold(0),
         Kind::Limits => Call::Limits(0, 0),
         Kind::Report => Call::Report(8, 11),
-        Kind::Restart => Call::Restart(0, 0),
+        Kind::Restart => Call::Restart(ImageKind::One, 0, 0),
     }
 }

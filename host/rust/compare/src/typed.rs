@@ -4,7 +4,8 @@ use crate::lent::{Fill, Lent, Memory};
 use guxhamole::{raw, Book, Settings};
 use independent::book::Book as Paper;
 use independent::ledger::Entry;
-use independent::{Answer, Call, Opening, Refusal, Report, Values};
+use independent::rules::NO_END;
+use independent::{Answer, Call, Kind, Opening, Refusal, Report, Values};
 
 /// What differs, in a few words.
 pub type Difference = String;
@@ -42,6 +43,8 @@ pub fn paper(book: &raw::Book) -> Paper {
         window: book.window,
         halves: book.halves,
         parents: book.parents,
+        from: NO_END,
+        to: NO_END,
         threshold: book.threshold,
         cap: book.cap,
         floor: book.floor,
@@ -229,7 +232,9 @@ impl Pair {
                 )
             }
             Call::Report(region, market) => self.report(*region, *market),
-            Call::Restart(buffer_length, ring_length) => self.restart(*buffer_length, *ring_length),
+            Call::Restart(_, buffer_length, ring_length) => {
+                self.restart(*buffer_length, *ring_length)
+            }
         }?;
         if answer.number != 0 {
             same(self.book.to_bytes() == before, "book after a refusal")?;
@@ -322,7 +327,9 @@ impl Pair {
         let mut image = self.memory.lend(buffer);
         let mut paper_image = image.slice().to_vec();
         let stored = told(self.book.store(self.ring.slice(), image.slice_mut()));
-        let expected = self.paper.store(&self.paper_ring, &mut paper_image);
+        let expected = self
+            .paper
+            .store(Kind::One, &self.paper_ring, &mut paper_image);
         same(stored == expected, "store's answer")?;
         same(image.holds(&paper_image), "image")?;
         same(self.ring.guarded(), "memory beside the stored ring")?;

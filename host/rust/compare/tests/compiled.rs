@@ -142,6 +142,8 @@ fn largest_image() {
         window: 2_016,
         halves: 48,
         parents: [255, 0, 0, 1, 3, 4, 5, 6],
+        from: 255,
+        to: 255,
         entries: 10_000_000,
         position: 287,
         threshold: 100_000_000_000,

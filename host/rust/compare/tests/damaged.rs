@@ -15,7 +15,7 @@ use independent::book::FAULTS;
 use independent::image::Fields;
 use independent::interval::Interval;
 use independent::ledger::Entry;
-use independent::Call;
+use independent::{Call, Kind};
 use std::collections::BTreeMap;
 
 /// What was met: each call's answers, and the faults of the books.
@@ -59,7 +59,7 @@ impl Met {
         let last = (book.regions.wrapping_sub(1).into(), book.services.into());
         for call in [
             Call::Report(0, 0),
-            Call::Restart(148 + 4 * ring.len(), ring.len()),
+            Call::Restart(Kind::One, 148 + 4 * ring.len(), ring.len()),
             Call::Report(last.0, last.1),
             entry(book, ring.len()),
             Call::Threshold(95_000),
@@ -459,16 +459,19 @@ fn foreign_rings() {
                 let ring = foreign(&mut random, ring, other.kept().1);
                 let mut pair = Pair::of(*book, &ring);
                 let whole = 148 + 4 * ring.len();
-                let stored = met.call(&mut pair.clone(), &Call::Restart(whole, ring.len()));
+                let stored = met.call(
+                    &mut pair.clone(),
+                    &Call::Restart(Kind::One, whole, ring.len()),
+                );
                 assert_eq!(met.question(book, &ring), stored, "a question's 22");
                 let buffer = random.pick(&[whole, whole, whole, 147, 147, 148]);
-                met.call(&mut pair, &Call::Restart(buffer, ring.len()));
+                met.call(&mut pair, &Call::Restart(Kind::One, buffer, ring.len()));
                 for _ in 0..random.between(1, 4) {
                     let call = entry(pair.kept().0, ring.len());
                     met.call(&mut pair, &call);
                 }
                 met.call(&mut pair, &Call::Report(0, 0));
-                met.call(&mut pair, &Call::Restart(whole, ring.len()));
+                met.call(&mut pair, &Call::Restart(Kind::One, whole, ring.len()));
             }
         }
     }

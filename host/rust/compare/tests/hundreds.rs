@@ -10,7 +10,7 @@ use generator::{calls, images, Random};
 use guxhamole::{raw, Book};
 use independent::image::{self, Fields, HEAD};
 use independent::rules::{in_hundreds, threshold_allowed};
-use independent::{Answer, Call, Ledger, Opening, Values};
+use independent::{Answer, Call, Kind, Ledger, Opening, Values};
 use std::collections::BTreeMap;
 
 /// Thresholds, and what an opening and a setting answer.
@@ -165,7 +165,7 @@ fn no_part_of_rule_10() {
         let entry = plain(&books::open(&smallest(10_000)), &[5]);
         for call in [
             Call::Report(0, 0),
-            Call::Restart(148, 1),
+            Call::Restart(Kind::One, 148, 1),
             Call::Limits(1, -1),
             Call::Threshold(10_000),
             Call::Entry(entry, 1, vec![0]),
@@ -206,7 +206,7 @@ fn worked_run() {
     assert_eq!(playing.call(Call::Threshold(95_000)).number, 44);
     assert_eq!(take_plain(&mut playing, &[95_001]), (vec![95_001], 0));
     assert_eq!(reported(&mut playing, 0, 0), (95_001, 1, 1, 2));
-    assert_eq!(playing.call(Call::Restart(152, 1)).number, 0);
+    assert_eq!(playing.call(Call::Restart(Kind::One, 152, 1)).number, 0);
     assert_eq!(playing.pair.image()[28..36], 95_000i64.to_le_bytes());
     assert_eq!(playing.call(Call::Threshold(100_000)).number, 0);
     for (number, mark) in [(3, 1), (4, 1), (5, 1), (6, 0)] {
@@ -225,7 +225,7 @@ fn a_threshold_stays() {
         take_plain(&mut playing, &[90_000 + turn]);
         reported(&mut playing, 0, 0);
         for (call, number) in [
-            (Call::Restart(152, 1), 0),
+            (Call::Restart(Kind::One, 152, 1), 0),
             (Call::Limits(50_000 + turn, -50_000), 0),
             (Call::Threshold(95_000 + i64::from(turn)), 44),
             (Call::Threshold(0), 18),

@@ -13,6 +13,7 @@ use generator::Random;
 use guxhamole::raw;
 use independent::ledger::Entry;
 use independent::rules::in_hundreds;
+use independent::Kind as ImageKind;
 use independent::{Answer, Call, Opening, Values};
 use std::collections::BTreeMap;
 
@@ -282,7 +283,7 @@ fn weeks_of_twins(random: &mut Random) -> Twins {
     let (mut calls, mut answers) = (Vec::new(), Vec::new());
     for turn in 0..5_500 {
         let call = match turn {
-            1_000 | 5_250 | 5_300 | 5_400 => Call::Restart(148 + 4 * ring, ring),
+            1_000 | 5_250 | 5_300 | 5_400 => Call::Restart(ImageKind::One, 148 + 4 * ring, ring),
             _ if turn % 300 == 299 => Call::Threshold(10_000 * random.between(1_900, 2_100)),
             _ => Call::Entry(weeks.entry(random, &ledger), ring, vec![0; prices]),
         };
@@ -354,6 +355,8 @@ const OPENING: Opening = Opening {
     halves: 1,
     first: 0,
     parents: [255, 0, 255, 255, 255, 255, 255, 255],
+    from: 255,
+    to: 255,
     threshold: 90_000,
     cap: 60_000,
     floor: -60_000,
@@ -550,7 +553,7 @@ fn case_6_restarts() {
     let [one, other] = [(0, 156), (100_000, 1_000)].map(|(price, buffer)| {
         [
             plain(0, [price, 50_000]),
-            Call::Restart(buffer, 4),
+            Call::Restart(ImageKind::One, buffer, 4),
             plain(1, [price, 50_000]),
         ]
     });

@@ -12,7 +12,7 @@ use guxhamole::raw;
 use independent::image::Fields;
 use independent::ledger::Entry;
 use independent::rules::MOST_ENTRIES;
-use independent::{Call, Ledger, Opening, Refusal};
+use independent::{Call, Kind, Ledger, Opening, Refusal};
 use std::collections::{BTreeMap, BTreeSet};
 
 /// What was met: the kinds of answers, and how often a wrong function would have answered something else.
@@ -343,7 +343,7 @@ fn books_at_the_bound() {
 /// A restart that is accepted.
 fn restart(ledger: &Ledger) -> Call {
     let ring = ledger.shape().ring();
-    Call::Restart(148 + 4 * ring, ring)
+    Call::Restart(Kind::One, 148 + 4 * ring, ring)
 }
 
 /// The book of an opening after so many valid entries.

@@ -387,6 +387,8 @@ fn all_entries_taken() {
         window: 3,
         halves: 1,
         parents: [255; 8],
+        from: 255,
+        to: 255,
         entries: MOST_ENTRIES,
         position: 5,
         threshold: 30_000,

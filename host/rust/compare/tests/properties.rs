@@ -6,7 +6,7 @@ use compare::typed::Pair;
 use compare::{books, rounds, say};
 use generator::{calls, images, Random};
 use independent::ledger::Entry;
-use independent::{image, Answer, Call, Ledger, Report, Values};
+use independent::{image, Answer, Call, Kind, Ledger, Report, Values};
 use std::collections::BTreeMap;
 
 /// Every used market's report.
@@ -22,7 +22,7 @@ fn reports(ledger: &Ledger) -> Vec<Report> {
 fn reloaded(ledger: &Ledger) -> Ledger {
     let image = ledger.image();
     let mut buffer = vec![0xAA; image.len() + 3];
-    assert_eq!(ledger.store(&mut buffer), Ok(image.len()));
+    assert_eq!(ledger.store(Kind::One, &mut buffer), Ok(image.len()));
     assert_eq!(buffer[..image.len()], image);
     assert_eq!(buffer[image.len()..], [0xAA; 3]);
     Ledger::load(&image, ledger.shape().ring()).expect("an image that loads")

@@ -8,7 +8,7 @@ use independent::maker::{make, Making};
 use independent::publishing::{passed_on, Bounds, CENT};
 use independent::rounding::half_away;
 use independent::rules::Refusal;
-use independent::{Ledger, Opening};
+use independent::{Kind, Ledger, Opening};
 
 const MOST: i32 = 10_000_000;
 
@@ -428,13 +428,13 @@ fn a64_restart() {
     let mut ledger = begin(&worked(1, 0, 1, 1));
     take_plain(&mut ledger, &[1]);
     let number = |result: Result<(), Refusal>| result.map_or_else(|r| r.number, |()| 0);
-    assert_eq!(number(ledger.restart(152, 1)), 0);
-    assert_eq!(number(ledger.restart(151, 2)), 23);
-    assert_eq!(number(ledger.restart(200, 2)), 11);
+    assert_eq!(number(ledger.restart(Kind::One, 152, 1)), 0);
+    assert_eq!(number(ledger.restart(Kind::One, 151, 2)), 23);
+    assert_eq!(number(ledger.restart(Kind::One, 200, 2)), 11);
     let mut buffer = [7; 155];
-    assert_eq!(ledger.store(&mut buffer), Ok(152));
+    assert_eq!(ledger.store(Kind::One, &mut buffer), Ok(152));
     assert_eq!(buffer[152..], [7, 7, 7]);
-    assert!(ledger.store(&mut buffer[..151]).is_err());
+    assert!(ledger.store(Kind::One, &mut buffer[..151]).is_err());
 }
 
 #[test]

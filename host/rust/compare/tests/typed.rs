@@ -9,7 +9,7 @@ use generator::{calls, images, Random};
 use guxhamole::raw;
 use independent::image::Fields;
 use independent::rules::MOST_ENTRIES;
-use independent::{Answer, Call, Ledger, Opening};
+use independent::{Answer, Call, Kind, Ledger, Opening};
 use std::collections::BTreeMap;
 
 /// What was met: each call's acceptances and refusals.
@@ -187,7 +187,7 @@ fn next_entry(random: &mut Random, ledger: &Ledger) -> Call {
 /// A restart that is accepted.
 fn restart(ledger: &Ledger) -> Call {
     let ring = ledger.shape().ring();
-    Call::Restart(148 + 4 * ring, ring)
+    Call::Restart(Kind::One, 148 + 4 * ring, ring)
 }
 
 /// Restarts after each of 0 to 3 × W + 2 entries, once and twice in a row, windows of 1 to 6.

@@ -53,7 +53,7 @@ fn written_list(
         let mut call = calls::call(random, opened);
         match &mut call {
             Call::Entry(_, lent_ring, _) => *lent_ring = (*lent_ring).min(ring),
-            Call::Restart(image, other) => (*image, *other) = (lent.image, lent.other.min(ring)),
+            Call::Restart(_, image, other) => (*image, *other) = (lent.image, lent.other.min(ring)),
             _ => {}
         }
         let answer = opened.call(&call);
@@ -190,7 +190,7 @@ fn calls_after(random: &mut Random) -> Vec<Call> {
     for mut call in list {
         match &mut call {
             Call::Entry(_, ring, _) => *ring = 0,
-            Call::Restart(image, ring) => (*image, *ring) = (0, 0),
+            Call::Restart(_, image, ring) => (*image, *ring) = (0, 0),
             _ => {}
         }
         asked.push(call);
@@ -208,6 +208,8 @@ fn real_shape() {
         halves: 48,
         first: 280,
         parents: [255, 0, 1, 1, 3, 255, 255, 255],
+        from: 255,
+        to: 255,
         threshold: 100_000,
         cap: 60_000,
         floor: -60_000,

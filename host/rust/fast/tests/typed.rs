@@ -64,7 +64,7 @@ impl Host {
                 answer(set.err(), Values::Nothing)
             }
             Call::Report(region, market) => self.report(*region, *market),
-            Call::Restart(image, ring) => {
+            Call::Restart(_, image, ring) => {
                 let restarted = self.restart(*image, *ring);
                 answer(restarted.err(), Values::Nothing)
             }

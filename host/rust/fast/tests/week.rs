@@ -15,6 +15,8 @@ const OPENING: Opening = Opening {
     halves: 48,
     first: 0,
     parents: [255, 0, 255, 255, 255, 255, 255, 255],
+    from: 255,
+    to: 255,
     threshold: 25_000_000,
     cap: 60_000,
     floor: -60_000,

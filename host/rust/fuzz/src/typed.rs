@@ -12,7 +12,7 @@ use independent::index::index;
 use independent::interval::Interval;
 use independent::ledger::Entry;
 use independent::maker::{make, Making};
-use independent::{Opening, Refusal, Report};
+use independent::{Kind, Opening, Refusal, Report};
 
 /// Calls that one run makes at most.
 const MOST_CALLS: usize = 12;
@@ -139,6 +139,8 @@ fn open(room: &mut [Pages], bytes: &mut Bytes, at_end: bool, met: &mut Met) -> O
         halves: settings.halves.into(),
         first: settings.first.into(),
         parents: settings.parents,
+        from: 255,
+        to: 255,
         threshold: settings.threshold,
         cap: settings.cap,
         floor: settings.floor,
@@ -353,7 +355,7 @@ impl Kept {
         let image = two.lend::<u8>(buffer, at_end);
         let mut expected_image = image.lent.to_vec();
         let stored = told(self.book.store(ring.lent, image.lent));
-        let expected = self.paper.store(&self.ring, &mut expected_image);
+        let expected = self.paper.store(Kind::One, &self.ring, &mut expected_image);
         assert_eq!(stored, expected, "store");
         assert!(image.holds(&expected_image), "image");
         assert!(ring.holds(&self.ring), "ring after a store");

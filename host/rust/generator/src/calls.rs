@@ -5,8 +5,15 @@ use crate::random::Random;
 use crate::ties;
 use independent::ledger::Entry;
 use independent::publishing::publish;
-use independent::rules::{Settings, NO_PARENT};
-use independent::{Call, Ledger, Opening};
+use independent::rules::{ends_allowed, Settings, Shape, KNOWN, NO_END, NO_PARENT};
+use independent::{Call, Kind, Known, Ledger, Opening};
+
+/// How many of a hundred openings have an additional link (request 2026-10 of document 02): none until the compiled functions know it,
+/// so that what is compared with them stays as it is.
+const LINKED: usize = match KNOWN {
+    Known::NoLink => 0,
+    Known::Link => 40,
+};
 
 /// The ring length that an opening with small settings asks for.
 pub fn ring_length(opening: &Opening) -> usize {
@@ -106,16 +113,83 @@ pub fn opening(random: &mut Random) -> Opening {
     } as u32;
     let parents = parents(random, regions);
     let (cap, floor) = limits(random);
-    Opening {
+    let opening = Opening {
         regions,
         services,
         window,
         halves,
         first: random.below(6 * halves as usize) as u32,
         parents,
+        from: NO_END,
+        to: NO_END,
         threshold: threshold(random, cap),
         cap,
         floor,
+    };
+    maybe_linked(random, opening)
+}
+
+/// The opening with or without an additional link, whichever it had: for openings whose regions or parents were changed.
+pub fn maybe_linked(random: &mut Random, opening: Opening) -> Opening {
+    if LINKED > 0 && random.chance(LINKED) {
+        return linked(random, opening);
+    }
+    Opening {
+        from: NO_END,
+        to: NO_END,
+        ..opening
+    }
+}
+
+/// The opening with an additional link between any two regions not already linked, in either order, whether or not it closes a ring;
+/// without one where all are.
+pub fn linked(random: &mut Random, opening: Opening) -> Opening {
+    let ends = good_ends(&opening);
+    let (from, to) = match ends.len() {
+        0 => (NO_END, NO_END),
+        _ => random.pick(&ends),
+    };
+    Opening {
+        from,
+        to,
+        ..opening
+    }
+}
+
+/// Every pair of ends that an opening's additional link may have.
+pub fn good_ends(opening: &Opening) -> Vec<(u8, u8)> {
+    let regions = 0..opening.regions as u8;
+    let pairs = regions
+        .clone()
+        .flat_map(|from| regions.clone().map(move |to| (from, to)));
+    let good = |&(from, to): &(u8, u8)| ends_allowed(from, to, &opening.parents, opening.regions);
+    pairs.filter(good).collect()
+}
+
+/// The opening with ends that are mostly refused by 20: one of them none, one past the regions, both the same, or two that are linked.
+pub fn with_any_ends(random: &mut Random, opening: Opening) -> Opening {
+    let regions = opening.regions as u8;
+    let menu = [0, 1, regions.wrapping_sub(1), regions, 8, 254, NO_END];
+    let (mut from, mut to) = (random.pick(&menu), random.pick(&menu));
+    if random.chance(30) {
+        let child = random.below(8);
+        (from, to) = (child as u8, opening.parents[child]);
+    }
+    if random.chance(50) {
+        (from, to) = (to, from);
+    }
+    Opening {
+        from,
+        to,
+        ..opening
+    }
+}
+
+/// A kind of image that a book can be stored by; by kind 1 alone until the compiled functions know the other.
+pub fn image_kind(random: &mut Random, shape: &Shape) -> Kind {
+    match KNOWN {
+        Known::Link if shape.link.is_none() => random.pick(&Kind::ALL),
+        _ => Kind::holding(shape),
     }
 }
 
@@ -151,6 +225,9 @@ pub fn damaged_opening(random: &mut Random) -> (Opening, usize) {
         if random.chance(70) {
             ring = ring_length(&opening);
         }
+    }
+    if LINKED > 0 && random.chance(20) {
+        opening = with_any_ends(random, opening);
     }
     (opening, ring)
 }
@@ -302,11 +379,12 @@ fn factors(random: &mut Random, ledger: &Ledger, energy: Energy) -> Vec<u32> {
     };
     let ties = random.chance(50).then(|| ties::factors(random, &limits));
     let mut factors = Vec::new();
-    for region in 0..ledger.shape().regions {
-        let linked = ledger.shape().parent(region).is_some();
+    let shape = ledger.shape();
+    for place in 0..shape.flows() {
+        let linked = place == shape.regions || shape.parent(place).is_some();
         factors.push(match &ties {
             _ if !linked && random.chance(50) => random.pick(&[0, 9_999, 20_001, u32::MAX]),
-            Some(route) => route[(region + route.len() - 1) % route.len()],
+            Some(route) => route[(place + route.len() - 1) % route.len()],
             None => match random.below(4) {
                 0 => random.pick(&[10_000, 20_000, 15_000, 10_001, 19_999]),
                 1 => 11_000,
@@ -318,12 +396,12 @@ fn factors(random: &mut Random, ledger: &Ledger, energy: Energy) -> Vec<u32> {
 }
 
 /// Flows: each of its own, or all one way, so that limits go over every link.
-fn flows(random: &mut Random, regions: usize) -> Vec<i32> {
+fn flows(random: &mut Random, places: usize) -> Vec<i32> {
     let menu = [1, 1, 1, -1, -1, -1, 0, i32::MIN, i32::MAX, 437];
     match random.below(4) {
-        0 => vec![1; regions],
-        1 => vec![-1; regions],
-        _ => (0..regions).map(|_| random.pick(&menu)).collect(),
+        0 => vec![1; places],
+        1 => vec![-1; places],
+        _ => (0..places).map(|_| random.pick(&menu)).collect(),
     }
 }
 
@@ -361,7 +439,7 @@ pub fn entry(random: &mut Random, ledger: &Ledger) -> Entry {
     let energy = Energy::of(random, ledger);
     let prices = prices(random, ledger, &marks, energy);
     let factors = factors(random, ledger, energy);
-    let flows = flows(random, shape.regions);
+    let flows = flows(random, shape.flows());
     let schedule = (0..shape.schedule())
         .map(|_| match random.below(6) {
             0 => any_number(random),
@@ -510,7 +588,13 @@ pub fn next_threshold(random: &mut Random, ledger: &Ledger) -> i64 {
 
 /// A restart: mostly a long enough buffer and the right ring, else one or both wrong.
 pub fn restart(random: &mut Random, ledger: &Ledger) -> Call {
-    let (image, ring) = (ledger.image().len(), ledger.shape().ring());
+    let ring = ledger.shape().ring();
+    let kind = match ledger.shape().link {
+        // Refused by 47.
+        Some(_) if random.chance(20) => Kind::One,
+        _ => image_kind(random, ledger.shape()),
+    };
+    let image = ledger.image_by(kind).len();
     let buffer = if random.chance(80) {
         image + random.pick(&[0, 0, 1, 40])
     } else {
@@ -521,7 +605,7 @@ pub fn restart(random: &mut Random, ledger: &Ledger) -> Call {
     } else {
         random.pick(&[0, ring - 1, ring + 1])
     };
-    Call::Restart(buffer, ring)
+    Call::Restart(kind, buffer, ring)
 }
 
 /// A list of calls over a book, and the ledger that it leads to.

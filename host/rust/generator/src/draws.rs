@@ -30,9 +30,10 @@ pub fn turns() -> impl Iterator<Item = (u16, u16)> {
     TURNS.into_iter().flat_map(with_lower)
 }
 
-/// How many draws an interval of a book takes: "its R × M prices, then flow and factor for each region".
+/// How many draws an interval of a book takes: "its R × M prices, then flow and factor for each region", and "one more pair" for the
+/// additional link (request 2026-10).
 pub fn draws(book: &Book) -> usize {
-    usize::from(book.regions) * (usize::from(book.services) + 1 + 2)
+    book.shape().prices() + 2 * book.shape().flows()
 }
 
 /// The s that a draw replaces by this one: 1,664,525 × 4,276,115,653 is 1 mod 2³², which undoes the product.

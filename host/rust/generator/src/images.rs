@@ -3,8 +3,8 @@
 use crate::calls;
 use crate::random::Random;
 use independent::image::{Fields, HEAD};
-use independent::rules::NO_PARENT;
-use independent::{Ledger, Opening};
+use independent::rules::{KNOWN, NO_PARENT};
+use independent::{Kind, Known, Ledger, Opening};
 
 /// The settings of a book without entries and with no period marked; an image of them loads, whatever their threshold.
 pub fn settings(random: &mut Random) -> Opening {
@@ -15,7 +15,14 @@ pub fn settings(random: &mut Random) -> Opening {
 
 /// An image of such a book: a list may begin with it.
 pub fn blank(random: &mut Random) -> Vec<u8> {
-    Fields::blank(&settings(random)).bytes()
+    let settings = settings(random);
+    blank_of(random, &settings)
+}
+
+/// An image of a book of these settings.
+pub fn blank_of(random: &mut Random, settings: &Opening) -> Vec<u8> {
+    let kind = calls::image_kind(random, &settings.shape());
+    Fields::blank(settings).bytes_by(kind)
 }
 
 /// A ledger with which a list begins: opened, or from an image.
@@ -24,8 +31,13 @@ pub fn begun(random: &mut Random) -> Ledger {
         return calls::opened(random);
     }
     let settings = settings(random);
-    let image = Fields::blank(&settings).bytes();
-    match Ledger::begin(&image, calls::ring_length(&settings)) {
+    begun_with(random, &settings)
+}
+
+/// A ledger that begins with an image of a book of these settings.
+pub fn begun_with(random: &mut Random, settings: &Opening) -> Ledger {
+    let image = blank_of(random, settings);
+    match Ledger::begin_by(Known::Link, &image, calls::ring_length(settings)) {
         Ok(Some(ledger)) => ledger,
         refused => panic!("{settings:?}: {refused:?}"),
     }
@@ -41,7 +53,14 @@ pub fn listed(random: &mut Random) -> Vec<u8> {
 
 /// A valid image put together field by field; many of these no list leads to.
 pub fn composed(random: &mut Random) -> Vec<u8> {
-    let opening = settings(random);
+    let settings = settings(random);
+    let fields = composed_of(random, &settings);
+    let kind = calls::image_kind(random, &fields.shape());
+    fields.bytes_by(kind)
+}
+
+/// The fields of such an image, of a book of these settings but with a window that is not long.
+pub fn composed_of(random: &mut Random, opening: &Opening) -> Fields {
     let (regions, markets) = (opening.regions as usize, opening.services as usize + 1);
     let window = opening.window.min(40);
     let most = window.min(6) as i64;
@@ -53,7 +72,7 @@ pub fn composed(random: &mut Random) -> Vec<u8> {
     let mut fields = Fields {
         window: window as u16,
         entries,
-        ..Fields::blank(&opening)
+        ..Fields::blank(opening)
     };
     for region in 0..regions {
         let wanted = match random.below(4) {
@@ -71,7 +90,7 @@ pub fn composed(random: &mut Random) -> Vec<u8> {
             }
         }
     }
-    fields.bytes()
+    fields
 }
 
 /// Writes a little-endian number where the image has room for it.
@@ -94,12 +113,20 @@ fn prices_wanted(image: &[u8]) -> usize {
     counts * (usize::from(image[7]) + 1)
 }
 
+/// Where the prices of an image of its kind begin.
+fn head(image: &[u8]) -> usize {
+    match (KNOWN, &image[4..6]) {
+        (Known::Link, [2, 0]) => Kind::Two.head(),
+        _ => HEAD,
+    }
+}
+
 /// Gives the image the length that its counts ask for, if that is not long.
 fn mend_prices(image: &mut Vec<u8>) {
     if image.len() >= HEAD {
         let wanted = prices_wanted(image);
         if wanted <= 1_000 {
-            image.resize(HEAD + 4 * wanted, 0);
+            image.resize(head(image) + 4 * wanted, 0);
             mend_length(image);
         }
     }
@@ -281,6 +308,9 @@ pub fn scrambled(random: &mut Random) -> Vec<u8> {
 /// A damaged copy: one to three damages, the length field or the whole length mended or not.
 pub fn damaged(random: &mut Random, image: &[u8]) -> Vec<u8> {
     let mut image = image.to_vec();
+    if KNOWN == Known::Link && random.chance(30) {
+        image = damaged_link(random, &image);
+    }
     for _ in 0..random.pick(&[1, 1, 1, 2, 3]) {
         match random.below(10) {
             0 => cut(random, &mut image),
@@ -293,6 +323,44 @@ pub fn damaged(random: &mut Random, image: &[u8]) -> Vec<u8> {
         0 => mend_length(&mut image),
         1 => mend_prices(&mut image),
         _ => {}
+    }
+    image
+}
+
+/// A copy with one damage of what kind 2 has more than kind 1: the ends, the zeros, the four bytes that are kept, the kind itself, or a
+/// cut about the end of either head. An image of kind 1 may be called one of kind 2.
+pub fn damaged_link(random: &mut Random, image: &[u8]) -> Vec<u8> {
+    let mut image = image.to_vec();
+    let regions = i64::from(image.get(6).copied().unwrap_or_default());
+    let ends = [0, 1, 2, regions - 1, regions, 7, 8, 254, 255];
+    match random.below(8) {
+        0 => put(&mut image, 148, 1, random.pick(&ends)),
+        1 => put(&mut image, 149, 1, random.pick(&ends)),
+        2 => {
+            put(&mut image, 148, 1, random.pick(&ends));
+            put(&mut image, 149, 1, random.pick(&ends));
+        }
+        3 => put(&mut image, 148, 2, random.pick(&[0, 65_535])),
+        4 => put(
+            &mut image,
+            150 + random.below(2),
+            1,
+            random.pick(&[0, 1, 255]),
+        ),
+        5 => put(
+            &mut image,
+            152 + random.below(4),
+            1,
+            random.pick(&[0, 1, 254, 255]),
+        ),
+        6 => put(&mut image, 4, 2, random.pick(&[1, 2, 3, 258])),
+        _ => {
+            image.truncate(random.between(147, 161) as usize);
+            put(&mut image, 4, 2, random.pick(&[1, 2, 2, 2, 3]));
+            if random.chance(80) {
+                mend_length(&mut image);
+            }
+        }
     }
     image
 }

@@ -7,7 +7,7 @@ use crate::random::Random;
 use independent::book::Book;
 use independent::image::Fields;
 use independent::interval::Interval;
-use independent::rules::{Shape, NO_PARENT};
+use independent::rules::{Known, Shape, NO_END, NO_PARENT};
 
 /// A reading: the slices lent to it hold what they hold before.
 #[derive(Clone, Debug, PartialEq, Eq)]
@@ -35,8 +35,9 @@ pub struct Rewriting {
     pub buffer: usize,
 }
 
-/// The lengths of a head and of a region's record.
+/// The lengths of a head, of the additional link's record and of a region's.
 const HEAD: usize = 12;
+const LINK: usize = 14;
 
 fn region_length(markets: usize) -> usize {
     16 + 4 * markets
@@ -44,7 +45,12 @@ fn region_length(markets: usize) -> usize {
 
 /// The length of an interval of a book.
 pub fn length(book: &Book) -> usize {
-    HEAD + usize::from(book.regions) * region_length(markets(book))
+    let link = if has_link(book) { LINK } else { 0 };
+    HEAD + usize::from(book.regions) * region_length(markets(book)) + link
+}
+
+fn has_link(book: &Book) -> bool {
+    book.from != NO_END
 }
 
 fn markets(book: &Book) -> usize {
@@ -56,7 +62,7 @@ pub fn book(random: &mut Random) -> Book {
     if random.chance(25) {
         let image = images::composed(random);
         let mut ring = vec![0; Fields::read(&image).shape().ring()];
-        return Book::load(&image, &mut ring).expect("a valid image");
+        return Book::load_by(Known::Link, &image, &mut ring).expect("a valid image");
     }
     let mut opening = calls::opening(random);
     opening.regions = random.between(1, 8) as u32;
@@ -64,6 +70,7 @@ pub fn book(random: &mut Random) -> Book {
     opening.window = random.between(1, 4) as u32;
     let unused = opening.parents.iter_mut().skip(opening.regions as usize);
     unused.for_each(|parent| *parent = NO_PARENT);
+    let opening = calls::maybe_linked(random, opening);
     let mut ring = vec![0; calls::ring_length(&opening)];
     Book::open(&opening, &mut ring).expect("a valid opening")
 }
@@ -72,7 +79,7 @@ pub fn book(random: &mut Random) -> Book {
 pub fn damaged_book(random: &mut Random, book: &Book) -> Book {
     let mut book = book.clone();
     let (region, place) = (random.below(8), random.below(88));
-    match random.below(14) {
+    match random.below(if has_link(&book) { 15 } else { 14 }) {
         0 => book.regions = random.pick(&[0, 9, 255]),
         1 => book.services = random.pick(&[11, 255]),
         2 => book.window = random.pick(&[0, 2_017, 65_535]),
@@ -86,6 +93,7 @@ pub fn damaged_book(random: &mut Random, book: &Book) -> Book {
         10 => book.counts[region] = random.pick(&[1, 2_017]),
         11 => book.nexts[region] = random.pick(&[1, 2_016]),
         12 => book.sums[place] = random.pick(&[1, 20_160_000_001, i64::MIN]),
+        14 => (book.from, book.to) = random.pick(&[(0, 0), (book.from, NO_END), (8, book.to)]),
         _ => book.marks[place] = random.pick(&[1, 2, 255]),
     }
     book
@@ -94,6 +102,7 @@ pub fn damaged_book(random: &mut Random, book: &Book) -> Book {
 /// Any numbers, those at the ends of their widths among them: records have no ranges.
 pub fn interval(random: &mut Random, book: &Book) -> Interval {
     let regions = usize::from(book.regions);
+    let flows = regions + usize::from(has_link(book));
     let ends = [0, 1, 255, 256, 1 << 31, (1 << 31) - 1, u32::MAX];
     let wild = random.chance(30);
     let mut word = |most: u64| match random.below(6) {
@@ -108,8 +117,8 @@ pub fn interval(random: &mut Random, book: &Book) -> Interval {
             .map(|_| word(100_000) as i32)
             .collect(),
         marks: (0..regions).map(|_| word(2) as u8).collect(),
-        flows: (0..regions).map(|_| word(1_000) as i32).collect(),
-        factors: (0..regions).map(|_| word(20_000)).collect(),
+        flows: (0..flows).map(|_| word(1_000) as i32).collect(),
+        factors: (0..flows).map(|_| word(20_000)).collect(),
     }
 }
 
@@ -120,12 +129,12 @@ pub fn fitting(shape: &Shape) -> Interval {
         kind: 0,
         prices: vec![0; shape.prices()],
         marks: vec![0; shape.regions],
-        flows: vec![0; shape.regions],
-        factors: vec![0; shape.regions],
+        flows: vec![0; shape.flows()],
+        factors: vec![0; shape.flows()],
     }
 }
 
-/// The records of an interval, its regions in an order.
+/// The records of an interval, its regions in an order; an extra last place of flows and factors is the additional link's.
 pub fn records(interval: &Interval, markets: usize, order: &[usize]) -> Vec<u8> {
     let mut bytes = vec![HEAD as u8, 0, 0, 0, 16, 0];
     bytes.extend(interval.number.to_le_bytes());
@@ -137,6 +146,11 @@ pub fn records(interval: &Interval, markets: usize, order: &[usize]) -> Vec<u8> 
         bytes.extend(interval.factors[region].to_le_bytes());
         let prices = &interval.prices[region * markets..][..markets];
         bytes.extend(prices.iter().flat_map(|price| price.to_le_bytes()));
+    }
+    for place in interval.marks.len()..interval.flows.len() {
+        bytes.extend([LINK as u8, 0, 0, 0, 18, 0]);
+        bytes.extend(interval.flows[place].to_le_bytes());
+        bytes.extend(interval.factors[place].to_le_bytes());
     }
     bytes
 }
@@ -166,7 +180,8 @@ pub fn any_order(random: &mut Random, regions: usize) -> Vec<usize> {
 /// Where each record of the interval at a place begins, the head first, as long as nothing is damaged.
 fn starts(book: &Book, at: usize) -> Vec<usize> {
     let regions = (0..usize::from(book.regions)).map(|k| HEAD + k * region_length(markets(book)));
-    let starts = std::iter::once(0).chain(regions);
+    let link = has_link(book).then(|| length(book) - LINK);
+    let starts = std::iter::once(0).chain(regions).chain(link);
     starts.map(|start| at + start).collect()
 }
 
@@ -185,7 +200,13 @@ pub(crate) fn damage(random: &mut Random, book: &Book, at: usize, bytes: &mut Ve
         0 => random.word() as u8,
         _ => random.pick(&MENU),
     };
-    let end = (start + region_length(markets(book))).min(bytes.len());
+    let link = has_link(book) && start + LINK == at + length(book);
+    let record = if link {
+        LINK
+    } else {
+        region_length(markets(book))
+    };
+    let end = (start + record).min(bytes.len());
     match random.below(11) {
         0 => bytes[anywhere] = value,
         1..=3 => bytes[near] = value,
@@ -238,7 +259,8 @@ pub(crate) fn misfit(random: &mut Random, interval: &mut Interval) {
     let slice = random.below(4);
     let right = match slice {
         0 => interval.prices.len(),
-        _ => interval.marks.len(),
+        1 => interval.marks.len(),
+        _ => interval.flows.len(),
     };
     let length = random.pick(&[0, right - 1, right + 1, 2 * right, 9, 88]);
     resize(interval, slice, length);

@@ -5,7 +5,7 @@ use crate::random::Random;
 use independent::image::HEAD;
 use independent::ledger;
 use independent::player::Lent;
-use independent::{Call, Ledger, Opening};
+use independent::{Call, Kind, Ledger, Opening};
 use records::{Damage, Entry, Record};
 
 /// What a replay is lent, the slices by their lengths.
@@ -147,7 +147,7 @@ fn add_calls(random: &mut Random, list: &mut List, opening: &Opening, length: us
             55..=66 => Call::Threshold(calls::next_threshold(random, &ledger)),
             67..=71 => calls::next_limits(random),
             72..=85 => calls::any_report(random, &ledger),
-            _ => Call::Restart(usize::MAX, ledger.shape().ring()),
+            _ => Call::Restart(Kind::One, usize::MAX, ledger.shape().ring()),
         };
         ledger.call(&call);
         let mut record = call_record(call);

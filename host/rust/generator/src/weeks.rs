@@ -54,10 +54,10 @@ impl Weeks {
                 .iter()
                 .map(|&left| (left > 0).into())
                 .collect(),
-            flows: (0..shape.regions)
+            flows: (0..shape.flows())
                 .map(|_| random.between(-2, 2) as i32)
                 .collect(),
-            factors: (0..shape.regions)
+            factors: (0..shape.flows())
                 .map(|_| random.between(10_000, 20_000) as u32)
                 .collect(),
             schedule: self.schedule.clone(),

@@ -2,7 +2,7 @@
 //! fields and any ring are allowed, also those that no list of calls leads to.
 
 use crate::checking::{entry_refusal, market_of};
-use crate::image::{self, Fields};
+use crate::image::{self, Fields, Kind};
 use crate::ledger::{Entry, Ledger, Report};
 use crate::publishing::publish;
 use crate::rules::*;
@@ -15,6 +15,9 @@ pub struct Book {
     pub window: u16,
     pub halves: u8,
     pub parents: [u8; 8],
+    /// The ends of the additional link (request 2026-10 of document 02).
+    pub from: u8,
+    pub to: u8,
     pub threshold: i64,
     pub cap: i32,
     pub floor: i32,
@@ -50,6 +53,9 @@ pub const FAULTS: [&str; 20] = [
     "unused mark",
 ];
 
+/// A further one, of the additional link's ends, which no compiled book has as yet.
+pub const LINK_FAULT: &str = "ends";
+
 /// "a sum beyond ±20,160,000,000"
 const MOST_SUM: i64 = 20_160_000_000;
 
@@ -65,6 +71,8 @@ impl Book {
             window: shape.window as u16,
             halves: shape.halves as u8,
             parents: shape.parents,
+            from: opening.from,
+            to: opening.to,
             threshold: opening.threshold,
             cap: opening.cap,
             floor: opening.floor,
@@ -92,6 +100,7 @@ impl Book {
     /// The limits of what a book is "Opened with", and "entries taken above 10,000,000".
     fn setting_fault(&self) -> Option<&'static str> {
         let (regions, halves) = (u32::from(self.regions), u32::from(self.halves));
+        let ends = ends_allowed(self.from, self.to, &self.parents, regions);
         let allowed = [
             ("regions", regions_allowed(regions)),
             ("services", services_allowed(self.services.into())),
@@ -103,6 +112,7 @@ impl Book {
             ("floor", floor_allowed(self.floor.into())),
             ("entries taken", self.entries <= MOST_ENTRIES),
             ("position", position_allowed(self.position.into(), halves)),
+            (LINK_FAULT, ends),
         ];
         let fault = allowed.into_iter().find(|(_, allowed)| !allowed);
         fault.map(|(name, _)| name)
@@ -155,6 +165,7 @@ impl Book {
             window: self.window.into(),
             halves: self.halves.into(),
             parents: self.parents,
+            link: link(self.from, self.to),
         }
     }
 
@@ -280,12 +291,14 @@ impl Book {
         Ok(prices)
     }
 
-    /// "Store: 10; 11; 22 …; 23 buffer shorter than the image. Bytes after the image stay." Answers the image's length.
-    pub fn store(&self, ring: &[i32], buffer: &mut [u8]) -> Result<usize, Refusal> {
+    /// "Store: 10; 11; 22 …; 23 buffer shorter than the image. Bytes after the image stay." Answers the image's length. "47: storing as
+    /// kind 1 a book with the link; after 22" (request 2026-10).
+    pub fn store(&self, kind: Kind, ring: &[i32], buffer: &mut [u8]) -> Result<usize, Refusal> {
         self.sound()?;
         unless(ring.len() == self.shape().ring(), 11)?;
         let prices = self.all_counted(ring)?;
-        let image = self.fields(prices).bytes();
+        unless(kind.holds(&self.shape()), 47)?;
+        let image = self.fields(prices).bytes_by(kind);
         unless(buffer.len() >= image.len(), 23)?;
         buffer[..image.len()].copy_from_slice(&image);
         Ok(image.len())
@@ -299,6 +312,8 @@ impl Book {
             window: self.window,
             halves: self.halves,
             parents: self.parents,
+            from: self.from,
+            to: self.to,
             entries: self.entries,
             position: self.position,
             threshold: self.threshold,
@@ -312,7 +327,11 @@ impl Book {
 
     /// "Loading puts the oldest at the window's first place, zeroes the others and adds the sums up anew."
     pub fn load(bytes: &[u8], ring: &mut [i32]) -> Result<Book, Refusal> {
-        image::first_refusal(bytes, Some(ring.len()))?;
+        Book::load_by(KNOWN, bytes, ring)
+    }
+
+    pub fn load_by(known: Known, bytes: &[u8], ring: &mut [i32]) -> Result<Book, Refusal> {
+        image::first_refusal_by(known, bytes, Some(ring.len()))?;
         let fields = Fields::read(bytes);
         let shape = fields.shape();
         let mut book = Book {
@@ -321,6 +340,8 @@ impl Book {
             window: fields.window,
             halves: fields.halves,
             parents: fields.parents,
+            from: fields.from,
+            to: fields.to,
             threshold: fields.threshold,
             cap: fields.cap,
             floor: fields.floor,

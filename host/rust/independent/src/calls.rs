@@ -1,5 +1,6 @@
 //! The calls of a list L with their arguments, and their answers.
 
+use crate::image::Kind;
 use crate::ledger::{Entry, Ledger, Report};
 use crate::rules::Refusal;
 
@@ -11,8 +12,8 @@ pub enum Call {
     Threshold(i64),
     Limits(i32, i32),
     Report(u32, u32),
-    /// The buffer's length and the other ring's.
-    Restart(usize, usize),
+    /// The image's kind, the buffer's length and the other ring's.
+    Restart(Kind, usize, usize),
 }
 
 /// "Compared, for each call of L: acceptance, or refusal with its place; an entry's count and published table; a
@@ -51,8 +52,8 @@ impl Ledger {
             Call::Report(region, market) => {
                 answer(self.report(*region, *market), ZEROS, Values::Report)
             }
-            Call::Restart(buffer_length, ring_length) => {
-                let result = self.restart(*buffer_length, *ring_length);
+            Call::Restart(kind, buffer_length, ring_length) => {
+                let result = self.restart(*kind, *buffer_length, *ring_length);
                 answer(result, (), |()| Values::Nothing)
             }
         }

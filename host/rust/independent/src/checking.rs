@@ -16,8 +16,8 @@ pub(crate) fn entry_refusal(
     let lengths_right = ring_length == shape.ring()
         && entry.prices.len() == shape.prices()
         && entry.marks.len() == shape.regions
-        && entry.flows.len() == shape.regions
-        && entry.factors.len() == shape.regions
+        && entry.flows.len() == shape.flows()
+        && entry.factors.len() == shape.flows()
         && entry.schedule.len() == shape.schedule()
         && table_length == shape.prices();
     unless(lengths_right, 11)?;
@@ -35,10 +35,16 @@ pub(crate) fn entry_refusal(
             }
         }
     }
-    for region in 0..shape.regions {
-        let in_range = (10_000..=20_000).contains(&entry.factors[region]);
-        if shape.parent(region).is_some() && !in_range {
-            return Err(refusal_at(17, region));
+    factor_refusal(shape, &entry.factors)
+}
+
+/// "17 a factor out of range where the region has a parent"; "17 now covers its factor" (request 2026-10 of document 02): the extra last
+/// place is looked at whenever it is there.
+fn factor_refusal(shape: &Shape, factors: &[u32]) -> Result<(), Refusal> {
+    for (place, factor) in factors.iter().enumerate() {
+        let looked_at = place == shape.regions || shape.parent(place).is_some();
+        if looked_at && !(10_000..=20_000).contains(factor) {
+            return Err(refusal_at(17, place));
         }
     }
     Ok(())

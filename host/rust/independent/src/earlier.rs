@@ -1,9 +1,9 @@
 //! Interval records of the form before "Regions in number order", request 2026-08 of document 02, whose words are quoted here beside
 //! those of 2026-01: the reader as it was, with regions in any order, and the rewriter, which puts whole records into their order and
-//! looks at no number in them but the region's.
+//! looks at no number in them but the region's. The additional link's record (request 2026-10) stands after the last of them here too.
 
 use crate::book::Book;
-use crate::interval::{in_order, known_length, Front, Interval, HEAD, REGION};
+use crate::interval::{in_order, Front, Interval, Kinds, HEAD, LINK, REGION};
 use crate::rules::*;
 use std::collections::BTreeMap;
 
@@ -16,27 +16,39 @@ impl Book {
         at: usize,
         lent: &mut Interval,
     ) -> Result<usize, Refusal> {
+        self.read_earlier_by(KNOWN, records, at, lent)
+    }
+
+    pub fn read_earlier_by(
+        &self,
+        known: Known,
+        records: &[u8],
+        at: usize,
+        lent: &mut Interval,
+    ) -> Result<usize, Refusal> {
         self.sound()?;
-        let shape = self.shape();
+        let (shape, kinds) = (self.shape(), self.shape().kinds(known));
         unless(lent.fits(&shape), 11)?;
         let mut front = Front::at(records, at);
-        let mut body = front.due(HEAD, shape.markets())?;
+        let mut body = front.due(HEAD, kinds)?;
         let (number, kind) = (u32::from_le_bytes(body.field()), body.byte());
         // "or a region total in the head, that doesn't belong there"
         unless(usize::from(body.byte()) == shape.regions, 41)?;
         let mut bodies = BTreeMap::new();
         for _ in 0..shape.regions {
-            let mut body = front.due(REGION, shape.markets())?;
+            let mut body = front.due(REGION, kinds)?;
             let region = usize::from(body.byte());
             // "42: a region from R up or given before"
             unless(region < shape.regions, 42)?;
             unless(bodies.insert(region, body).is_none(), 42)?;
         }
-        *lent = Interval {
+        let mut interval = Interval {
             number,
             kind,
             ..in_order(bodies.into_values(), shape.markets())
         };
+        front.link(&shape, kinds, &mut interval)?;
+        *lent = interval;
         Ok(records.len() - front.rest.len())
     }
 
@@ -48,27 +60,42 @@ impl Book {
         at: usize,
         buffer: &mut [u8],
     ) -> Result<usize, Refusal> {
+        self.rewrite_interval_by(KNOWN, records, at, buffer)
+    }
+
+    pub fn rewrite_interval_by(
+        &self,
+        known: Known,
+        records: &[u8],
+        at: usize,
+        buffer: &mut [u8],
+    ) -> Result<usize, Refusal> {
         self.sound()?;
-        let (regions, markets) = (self.shape().regions, self.shape().markets());
-        let lengths = std::iter::once(HEAD).chain(vec![REGION; regions]);
-        let needed = lengths.filter_map(|kind| known_length(kind, markets)).sum();
+        let (shape, kinds) = (self.shape(), self.shape().kinds(known));
+        let link = shape.link.map(|_| LINK);
+        let due = std::iter::once(HEAD).chain(vec![REGION; shape.regions]);
+        let needed = due.chain(link).filter_map(|kind| kinds.length(kind)).sum();
         unless(buffer.len() >= needed, 23)?;
         let mut front = Front::at(records, at);
-        let (head, mut body) = front.whole(HEAD, markets)?;
+        let (head, mut body) = front.whole(HEAD, kinds)?;
         let (_number, _day_kind) = (body.field::<4>(), body.byte());
-        unless(usize::from(body.byte()) == regions, 41)?;
+        unless(usize::from(body.byte()) == shape.regions, 41)?;
         let mut given: Vec<(u8, &[u8])> = Vec::new();
-        for _ in 0..regions {
-            let (record, mut body) = front.whole(REGION, markets)?;
+        for _ in 0..shape.regions {
+            let (record, mut body) = front.whole(REGION, kinds)?;
             let region = body.byte();
             let before = given.iter().any(|(earlier, _)| *earlier == region);
-            unless(usize::from(region) < regions && !before, 42)?;
+            unless(usize::from(region) < shape.regions && !before, 42)?;
             given.push((region, record));
         }
         // "Region records now follow their head as 0, 1 and so on."
         given.sort_by_key(|(region, _)| *region);
-        let fixed: Vec<&[u8]> = given.into_iter().map(|(_, record)| record).collect();
-        let written = [head, &fixed.concat()].concat();
+        let mut written = vec![head];
+        written.extend(given.into_iter().map(|(_, record)| record));
+        if link.is_some() {
+            written.push(front.whole(LINK, kinds)?.0);
+        }
+        let written = written.concat();
         buffer[..written.len()].copy_from_slice(&written);
         Ok(records.len() - front.rest.len())
     }
@@ -76,9 +103,9 @@ impl Book {
 
 impl<'a> Front<'a> {
     /// The record of the kind that is due, all its bytes, and its body.
-    fn whole(&mut self, kind: u16, markets: usize) -> Result<(&'a [u8], Front<'a>), Refusal> {
+    fn whole(&mut self, kind: u16, kinds: Kinds) -> Result<(&'a [u8], Front<'a>), Refusal> {
         let before = self.rest;
-        let body = self.due(kind, markets)?;
+        let body = self.due(kind, kinds)?;
         Ok((&before[..before.len() - self.rest.len()], body))
     }
 }

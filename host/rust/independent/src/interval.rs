@@ -1,5 +1,6 @@
-//! "Interval records from the plant bus", request 2026-01 of document 02, with "Regions in number order", request 2026-08; their words
-//! are quoted here: a reader that goes from record to record, and a writer. The form before 2026-08 is in `earlier`.
+//! "Interval records from the plant bus", request 2026-01 of document 02, with "Regions in number order", request 2026-08, and the
+//! additional link's record of 2026-10; their words are quoted here: a reader that goes from record to record, and a writer. The form
+//! before 2026-08 is in `earlier`.
 
 use crate::book::Book;
 use crate::rules::*;
@@ -9,6 +10,10 @@ pub(crate) const HEAD: u16 = 16;
 
 /// "Kind 17 is a region"
 pub(crate) const REGION: u16 = 17;
+
+/// "In the records they are a kind 18, flow (4) and factor (4), after the last region, read and written exactly when the book has the
+/// link"
+pub(crate) const LINK: u16 = 18;
 
 /// An entry, "its schedule aside".
 #[derive(Clone, Debug, PartialEq, Eq, Hash)]
@@ -26,8 +31,8 @@ impl Interval {
     pub(crate) fn fits(&self, shape: &Shape) -> bool {
         self.prices.len() == shape.prices()
             && self.marks.len() == shape.regions
-            && self.flows.len() == shape.regions
-            && self.factors.len() == shape.regions
+            && self.flows.len() == shape.flows()
+            && self.factors.len() == shape.flows()
     }
 }
 
@@ -37,12 +42,22 @@ fn record(kind: u16, body: &[u8]) -> Vec<u8> {
     [&length.to_le_bytes()[..], &kind.to_le_bytes(), body].concat()
 }
 
-/// The length that a known kind has, counted on a record of zeros.
-pub(crate) fn known_length(kind: u16, markets: usize) -> Option<usize> {
-    match kind {
-        HEAD => Some(head(0, 0, 0).len()),
-        REGION => Some(region(0, 0, 0, 0, &vec![0; markets]).len()),
-        _ => None,
+/// What tells records apart: the markets of the book, and whether the additional link's record is known, as it then is in every book.
+#[derive(Clone, Copy, Debug)]
+pub(crate) struct Kinds {
+    pub(crate) known: Known,
+    pub(crate) markets: usize,
+}
+
+impl Kinds {
+    /// The length that a known kind has, counted on a record of zeros.
+    pub(crate) fn length(self, kind: u16) -> Option<usize> {
+        match kind {
+            HEAD => Some(head(0, 0, 0).len()),
+            REGION => Some(region(0, 0, 0, 0, &vec![0; self.markets]).len()),
+            LINK if self.known == Known::Link => Some(link_record(0, 0).len()),
+            _ => None,
+        }
     }
 }
 
@@ -63,6 +78,11 @@ fn region(region: u8, mark: u8, flow: i32, factor: u32, prices: &[i32]) -> Vec<u
         body.extend(price.to_le_bytes());
     }
     record(REGION, &body)
+}
+
+/// "flow (4) and factor (4)"
+fn link_record(flow: i32, factor: u32) -> Vec<u8> {
+    record(LINK, &[flow.to_le_bytes(), factor.to_le_bytes()].concat())
 }
 
 /// Bytes that are taken from the front.
@@ -96,7 +116,7 @@ impl<'a> Front<'a> {
 
     /// The next record's kind and body: "40: a record missing or cut short, a length below 6 or, for a known kind, another than
     /// it has".
-    fn record(&mut self, markets: usize) -> Result<(u16, Front<'a>), Refusal> {
+    fn record(&mut self, kinds: Kinds) -> Result<(u16, Front<'a>), Refusal> {
         let mut start = Front { rest: self.rest };
         let (Some(length), Some(kind)) = (start.take(4), start.take(2)) else {
             return Err(refusal(40));
@@ -108,14 +128,14 @@ impl<'a> Front<'a> {
         let kind = u16::from(kind[0]) + 256 * u16::from(kind[1]);
         unless(length >= 6, 40)?;
         let rest = self.take(length).ok_or(refusal(40))?;
-        let known = known_length(kind, markets);
+        let known = kinds.length(kind);
         unless(known.is_none_or(|known| known == length), 40)?;
         Ok((kind, Front { rest: &rest[6..] }))
     }
 
     /// The body of a record of the kind that is due; "41: a kind … that doesn't belong there".
-    pub(crate) fn due(&mut self, kind: u16, markets: usize) -> Result<Front<'a>, Refusal> {
-        let (found, body) = self.record(markets)?;
+    pub(crate) fn due(&mut self, kind: u16, kinds: Kinds) -> Result<Front<'a>, Refusal> {
+        let (found, body) = self.record(kinds)?;
         unless(found == kind, 41)?;
         Ok(body)
     }
@@ -123,29 +143,58 @@ impl<'a> Front<'a> {
 
 /// The interval at a place of the records, and the place after it: "per record 40, 41", 45.
 pub(crate) fn interval_at(
+    known: Known,
     shape: &Shape,
     records: &[u8],
     at: usize,
 ) -> Result<(Interval, usize), Refusal> {
+    let kinds = shape.kinds(known);
     let mut front = Front::at(records, at);
-    let mut body = front.due(HEAD, shape.markets())?;
+    let mut body = front.due(HEAD, kinds)?;
     let (number, kind) = (u32::from_le_bytes(body.field()), body.byte());
     // "or a region total in the head, that doesn't belong there"
     unless(usize::from(body.byte()) == shape.regions, 41)?;
     // "Region records now follow their head as 0, 1 and so on."
     let mut bodies = Vec::new();
     for next in 0..shape.regions {
-        let mut body = front.due(REGION, shape.markets())?;
+        let mut body = front.due(REGION, kinds)?;
         // "45: a region record that isn't the next region"
         unless(usize::from(body.byte()) == next, 45)?;
         bodies.push(body);
     }
-    let interval = Interval {
+    let mut interval = Interval {
         number,
         kind,
         ..in_order(bodies, shape.markets())
     };
+    front.link(shape, kinds, &mut interval)?;
     Ok((interval, records.len() - front.rest.len()))
+}
+
+impl Front<'_> {
+    /// The additional link's flow and factor, "an extra last place", where the book has it.
+    pub(crate) fn link(
+        &mut self,
+        shape: &Shape,
+        kinds: Kinds,
+        interval: &mut Interval,
+    ) -> Result<(), Refusal> {
+        if shape.link.is_some() {
+            let mut body = self.due(LINK, kinds)?;
+            interval.flows.push(i32::from_le_bytes(body.field()));
+            interval.factors.push(u32::from_le_bytes(body.field()));
+        }
+        Ok(())
+    }
+}
+
+impl Shape {
+    /// A book with the link knows its record whatever the others do.
+    pub(crate) fn kinds(&self, known: Known) -> Kinds {
+        let known = self.link.map_or(known, |_| Known::Link);
+        let markets = self.markets();
+        Kinds { known, markets }
+    }
 }
 
 impl Book {
@@ -157,10 +206,20 @@ impl Book {
         at: usize,
         lent: &mut Interval,
     ) -> Result<usize, Refusal> {
+        self.read_interval_by(KNOWN, records, at, lent)
+    }
+
+    pub fn read_interval_by(
+        &self,
+        known: Known,
+        records: &[u8],
+        at: usize,
+        lent: &mut Interval,
+    ) -> Result<usize, Refusal> {
         self.sound()?;
         let shape = self.shape();
         unless(lent.fits(&shape), 11)?;
-        let (interval, next) = interval_at(&shape, records, at)?;
+        let (interval, next) = interval_at(known, &shape, records, at)?;
         *lent = interval;
         Ok(next)
     }
@@ -177,6 +236,11 @@ impl Book {
                 .collect();
             let (mark, flow) = (interval.marks[r], interval.flows[r]);
             bytes.extend(region(r as u8, mark, flow, interval.factors[r], &prices));
+        }
+        // "after the last region"
+        for place in shape.regions..shape.flows() {
+            let (flow, factor) = (interval.flows[place], interval.factors[place]);
+            bytes.extend(link_record(flow, factor));
         }
         unless(bytes.len() <= buffer.len(), 23)?;
         buffer[..bytes.len()].copy_from_slice(&bytes);

@@ -3,7 +3,7 @@
 
 use crate::cache::Cache;
 use crate::checking::{entry_refusal, market_of};
-use crate::image;
+use crate::image::{self, Kind};
 use crate::publishing::{publish, Published};
 use crate::rules::*;
 use std::iter::repeat_with;
@@ -68,7 +68,8 @@ impl Ledger {
             && window_allowed(opening.window)
             && halves_allowed(opening.halves)
             && position_allowed(opening.first, opening.halves)
-            && parents_allowed(&opening.parents, opening.regions);
+            && parents_allowed(&opening.parents, opening.regions)
+            && ends_allowed(opening.from, opening.to, &opening.parents, opening.regions);
         unless(setting_allowed, 20)?;
         unless(ring_length == opening.shape().ring(), 11)?;
         threshold_refusal(opening.threshold)?;
@@ -79,7 +80,15 @@ impl Ledger {
     /// Request 2026-06 of document 02: "its list may begin with such an image of a book without entries and with no period marked, its
     /// settings standing for the opening's". Loaded into a ring of a length; `None` is an image of another book, with which no list begins.
     pub fn begin(bytes: &[u8], ring_length: usize) -> Result<Option<Ledger>, Refusal> {
-        image::first_refusal(bytes, Some(ring_length))?;
+        Ledger::begin_by(KNOWN, bytes, ring_length)
+    }
+
+    pub fn begin_by(
+        known: Known,
+        bytes: &[u8],
+        ring_length: usize,
+    ) -> Result<Option<Ledger>, Refusal> {
+        image::first_refusal_by(known, bytes, Some(ring_length))?;
         let fields = image::Fields::read(bytes);
         Ok(fields.settings().map(|settings| Ledger::opened(&settings)))
     }
@@ -273,24 +282,48 @@ impl Ledger {
     }
 
     /// "A restart is an image stored into a long enough buffer and loaded, from exactly its bytes, into another ring of
-    /// the right length"; "P accepts both calls and does nothing". Too short a buffer is refused by 23, another ring's
-    /// wrong length by 11.
-    pub fn restart(&self, buffer_length: usize, ring_length: usize) -> Result<(), Refusal> {
-        unless(buffer_length >= self.image().len(), 23)?;
+    /// the right length"; "P accepts both calls and does nothing". "a restart goes by kind 2, or by kind 1 where 47 allows it" (request
+    /// 2026-10). Too short a buffer is refused by 23, another ring's wrong length by 11.
+    pub fn restart(
+        &self,
+        kind: Kind,
+        buffer_length: usize,
+        ring_length: usize,
+    ) -> Result<(), Refusal> {
+        self.stored(kind, buffer_length)?;
         unless(ring_length == self.shape.ring(), 11)
     }
 
-    /// "Store: … 23 buffer shorter than the image. Bytes after the image stay." Answers the image's length.
-    pub fn store(&self, buffer: &mut [u8]) -> Result<usize, Refusal> {
-        let image = self.image();
-        unless(buffer.len() >= image.len(), 23)?;
+    /// "Store: … 23 buffer shorter than the image. Bytes after the image stay." Answers the image's length. A ledger never meets 10
+    /// and 22.
+    pub fn store(&self, kind: Kind, buffer: &mut [u8]) -> Result<usize, Refusal> {
+        let image = self.stored(kind, buffer.len())?;
         buffer[..image.len()].copy_from_slice(&image);
         Ok(image.len())
     }
 
-    /// "The image", written from the history.
+    /// The image that a buffer of a length takes. "47: storing as kind 1 a book with the link; after 22", and so before 23.
+    fn stored(&self, kind: Kind, buffer_length: usize) -> Result<Vec<u8>, Refusal> {
+        unless(kind.holds(&self.shape), 47)?;
+        let image = self.image_by(kind);
+        unless(buffer_length >= image.len(), 23)?;
+        Ok(image)
+    }
+
+    /// "The image", of the first kind that holds the book.
     pub fn image(&self) -> Vec<u8> {
+        self.image_by(Kind::holding(&self.shape))
+    }
+
+    /// "The image" of a kind, written from the history.
+    pub fn image_by(&self, kind: Kind) -> Vec<u8> {
+        self.fields().bytes_by(kind)
+    }
+
+    /// The image's fields.
+    fn fields(&self) -> image::Fields {
         let shape = &self.shape;
+        let (from, to) = shape.ends();
         let settings = self.settings();
         let mut fields = image::Fields {
             regions: shape.regions as u8,
@@ -298,6 +331,8 @@ impl Ledger {
             window: shape.window as u16,
             halves: shape.halves as u8,
             parents: shape.parents,
+            from,
+            to,
             entries: self.entries_taken(),
             position: self.position() as u16,
             threshold: settings.threshold,
@@ -315,12 +350,16 @@ impl Ledger {
                 fields.prices.extend(self.counted(region, market));
             }
         }
-        fields.bytes()
+        fields
     }
 
     /// Loading an image into a ring of a length; the ledger goes on from there.
     pub fn load(bytes: &[u8], ring_length: usize) -> Result<Ledger, Refusal> {
-        image::first_refusal(bytes, Some(ring_length))?;
+        Ledger::load_by(KNOWN, bytes, ring_length)
+    }
+
+    pub fn load_by(known: Known, bytes: &[u8], ring_length: usize) -> Result<Ledger, Refusal> {
+        image::first_refusal_by(known, bytes, Some(ring_length))?;
         let fields = image::Fields::read(bytes);
         let shape = fields.shape();
         let mut prices = fields.prices.iter().copied();

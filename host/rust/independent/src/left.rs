@@ -14,8 +14,8 @@ fn further(shape: &Shape, region: usize, market: usize, price: i32) -> Entry {
         kind: 0,
         prices: vec![0; shape.prices()],
         marks: vec![1; shape.regions],
-        flows: vec![0; shape.regions],
-        factors: vec![10_000; shape.regions],
+        flows: vec![0; shape.flows()],
+        factors: vec![10_000; shape.flows()],
         schedule: vec![0; shape.schedule()],
     };
     entry.prices[shape.place(region, market)] = price;

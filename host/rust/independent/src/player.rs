@@ -2,10 +2,10 @@
 //! the lent slices it knows the lengths alone. Quotations are that document's.
 
 use crate::calls::{closed_answer, Answer, Call, Values};
-use crate::image::number;
+use crate::image::{number, Kind};
 use crate::ledger::{Entry, Ledger};
 use crate::rings::Rings;
-use crate::rules::Opening;
+use crate::rules::{Opening, NO_END};
 
 /// The lengths of the lent slices, the calls aside.
 #[derive(Clone, Copy, Debug, PartialEq, Eq)]
@@ -188,7 +188,7 @@ impl Player<'_> {
             }
             69 => {
                 length(6)?;
-                Ok(Call::Restart(self.lent.image, self.other))
+                Ok(Call::Restart(Kind::One, self.lent.image, self.other))
             }
             _ => Err(KIND),
         }
@@ -301,6 +301,8 @@ fn read_opening(record: &[u8]) -> Opening {
         halves: number(record, 10, 1) as u32,
         first: number(record, 12, 2) as u32,
         parents,
+        from: NO_END,
+        to: NO_END,
         threshold: number(record, 22, 8) as i64,
         cap: signed(record, 30),
         floor: signed(record, 34),

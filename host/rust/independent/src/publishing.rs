@@ -123,20 +123,27 @@ struct Link {
 }
 
 /// "Flow above 0 carries from a region to its parent, below 0 from the parent, 0 not at all." "A region without a parent
-/// has no flow or factor looked at."
+/// has no flow or factor looked at." The additional link's come "as an extra last place, positive from the first named to the second"
+/// (request 2026-10 of document 02).
 fn links(shape: &Shape, flows: &[i32], factors: &[u32]) -> Vec<Link> {
-    let mut links = Vec::new();
+    let mut ends: Vec<(usize, usize, usize)> = Vec::new();
     for region in 0..shape.regions {
-        if let Some(parent) = shape.parent(region) {
-            let (flow, factor) = (flows[region], i128::from(factors[region]));
-            if flow > 0 {
-                let (from, to) = (region, parent);
-                links.push(Link { from, to, factor });
-            } else if flow < 0 {
-                let (from, to) = (parent, region);
-                links.push(Link { from, to, factor });
-            }
-        }
+        ends.extend(shape.parent(region).map(|parent| (region, region, parent)));
+    }
+    ends.extend(
+        shape
+            .link
+            .map(|(first, second)| (shape.regions, first, second)),
+    );
+    let mut links = Vec::new();
+    for (place, first, second) in ends {
+        let factor = i128::from(factors[place]);
+        let (from, to) = match flows[place].signum() {
+            1 => (first, second),
+            -1 => (second, first),
+            _ => continue,
+        };
+        links.push(Link { from, to, factor });
     }
     links
 }

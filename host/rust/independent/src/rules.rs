@@ -35,7 +35,22 @@ pub const MOST_ENTRIES: u32 = 10_000_000;
 /// "holds 255": no parent.
 pub const NO_PARENT: u8 = 255;
 
-/// What a book is "Opened with".
+/// "(255, 255 for none)": no additional link (request 2026-10 of document 02).
+pub const NO_END: u8 = 255;
+
+/// Whether a call knows images of kind 2 and records of kind 18 (request 2026-10 of document 02).
+#[derive(Clone, Copy, Debug, PartialEq, Eq)]
+pub enum Known {
+    /// Kind 2 is 25, and kind 18 is any unknown one.
+    NoLink,
+    Link,
+}
+
+/// What the compiled functions know, and so every call here that does not say it. They gain the link in a landing of its own: this
+/// constant turns to `Link` then, and may go.
+pub const KNOWN: Known = Known::NoLink;
+
+/// What a book is "Opened with"; of the additional link `from` is "the first named" region, `to` "the second".
 #[derive(Clone, Copy, Debug, PartialEq, Eq)]
 pub struct Opening {
     pub regions: u32,
@@ -44,6 +59,8 @@ pub struct Opening {
     pub halves: u32,
     pub first: u32,
     pub parents: [u8; 8],
+    pub from: u8,
+    pub to: u8,
     pub threshold: i64,
     pub cap: i32,
     pub floor: i32,
@@ -58,11 +75,12 @@ impl Opening {
             window: self.window as usize,
             halves: self.halves as usize,
             parents: self.parents,
+            link: link(self.from, self.to),
         }
     }
 }
 
-/// The settings that never change: R, S, W, H and the parents, all within their limits.
+/// The settings that never change: R, S, W, H, the parents and the additional link, all within their limits.
 #[derive(Clone, Copy, Debug, PartialEq, Eq)]
 pub struct Shape {
     pub regions: usize,
@@ -70,6 +88,13 @@ pub struct Shape {
     pub window: usize,
     pub halves: usize,
     pub parents: [u8; 8],
+    /// The first named region and the second of the additional link, if the book has it.
+    pub link: Option<(usize, usize)>,
+}
+
+/// The additional link of ends within their limits.
+pub fn link(from: u8, to: u8) -> Option<(usize, usize)> {
+    (from != NO_END).then_some((from.into(), to.into()))
 }
 
 impl Shape {
@@ -96,6 +121,17 @@ impl Shape {
     /// "(schedule R × M × 2 × H)"
     pub fn schedule(&self) -> usize {
         self.prices() * 2 * self.halves
+    }
+
+    /// "its flow and factor come as an extra last place" (request 2026-10): how many flows there are, and how many factors.
+    pub fn flows(&self) -> usize {
+        self.regions + usize::from(self.link.is_some())
+    }
+
+    /// The ends of the additional link as bytes, "255, 255 for none".
+    pub fn ends(&self) -> (u8, u8) {
+        let bytes = |(from, to): (usize, usize)| (from as u8, to as u8);
+        self.link.map_or((NO_END, NO_END), bytes)
     }
 
     /// Where a market of a region stands among R × M, region by region.
@@ -154,6 +190,16 @@ pub fn parents_allowed(parents: &[u8; 8], regions: u32) -> bool {
         let may_be_linked = region > 0 && region < regions;
         parent == NO_PARENT || (may_be_linked && u32::from(parent) < region)
     })
+}
+
+/// "one additional link between two regions not already linked" (request 2026-10), or none.
+pub fn ends_allowed(from: u8, to: u8, parents: &[u8; 8], regions: u32) -> bool {
+    if from == NO_END && to == NO_END {
+        return true;
+    }
+    let both_there = u32::from(from) < regions && u32::from(to) < regions;
+    let child_of = |child: u8, parent: u8| parents.get(usize::from(child)) == Some(&parent);
+    both_there && from != to && !child_of(from, to) && !child_of(to, from)
 }
 
 /// "threshold 1..100,000,000,000"

@@ -56,9 +56,10 @@ impl Book {
                 lent.prices[shape.place(region, market)] = source.service();
             }
         }
-        for region in 0..shape.regions {
-            lent.flows[region] = source.flow();
-            lent.factors[region] = source.factor();
+        // "A test load draws one more pair for it", the additional link (request 2026-10).
+        for place in 0..shape.flows() {
+            lent.flows[place] = source.flow();
+            lent.factors[place] = source.factor();
         }
         // "Marks are 0"
         lent.marks.fill(0);
