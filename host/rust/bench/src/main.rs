@@ -2,7 +2,8 @@
 //! questions for the intervals left, bills, the schedule maker, then the replay on the same bytes, entries, restarts, and whether an
 //! entry's cost grows with the window or with the history. The one argument is the number of rounds; `intervals` leaves all but the
 //! interval records out, `loads` all but the test load, `questions` all but the questions, `bills` all but the bills, `schedules` all but
-//! the schedule maker, and `count ..` makes calls to be counted by instructions. docs/PERFORMANCE.md says how to read the tables.
+//! the schedule maker, `rings` is limits over a ring of regions by hand alone, and `count ..` makes calls to be counted by instructions.
+//! docs/PERFORMANCE.md says how to read the tables.
 
 mod bills;
 mod clock;
@@ -11,6 +12,7 @@ mod intervals;
 mod lists;
 mod loads;
 mod questions;
+mod rings;
 mod schedules;
 mod tables;
 mod timing;
@@ -62,12 +64,14 @@ fn main() {
         ["bills", rounds] => some_rounds(rounds, retail_bills),
         ["schedules"] => some_rounds("", schedule_maker),
         ["schedules", rounds] => some_rounds(rounds, schedule_maker),
+        ["rings"] => some_rounds("", ring_of_eight),
+        ["rings", rounds] => some_rounds(rounds, ring_of_eight),
         [] => some_rounds("", all_tables),
         [rounds] => some_rounds(rounds, all_tables),
         _ => None,
     };
     if done.is_none() {
-        eprintln!("bench [intervals|loads|questions|bills|schedules] [ROUNDS]");
+        eprintln!("bench [intervals|loads|questions|bills|schedules|rings] [ROUNDS]");
         eprintln!("bench count proved|fast [small] [administered] [report|store|load|question|schedule|draw|bill|day]");
         eprintln!("bench count proved|fast [small] [read|write|rewrite-upward|rewrite-shuffled]");
         std::process::exit(2);
@@ -202,6 +206,15 @@ fn schedule_maker(rounds: usize) {
         let name = format!("H {halves}, {} prices", tables::grouped(weeks.prices()));
         tables::row(&name, &weeks.measure(rounds));
     }
+}
+
+/// Limits over a ring of eight regions, by hand alone: no part of all tables until the proved functions have the link.
+fn ring_of_eight(rounds: usize) {
+    let cost = rings::measure(rounds);
+    println!(
+        "limits over a ring of eight regions, by hand: {:.0} ({:.0})",
+        cost.median, cost.least
+    );
 }
 
 /// An entry's cost once the window is full.

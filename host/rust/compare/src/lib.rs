@@ -10,6 +10,7 @@ pub mod isolation;
 pub mod left;
 pub mod lent;
 pub mod limits;
+pub mod links;
 pub mod machines;
 pub mod playing;
 pub mod replay;

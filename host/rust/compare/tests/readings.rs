@@ -400,7 +400,7 @@ fn a53_to_a57_images() {
     assert_eq!(load(&image[..147], 4), (24, 0));
     assert_eq!(load(&[], 4), (24, 0));
     assert_eq!(load(&[&image[..], &[0]].concat(), 4), (24, 0));
-    assert_eq!(load(&changed(4, &[2, 0, 0]), 4), (25, 0));
+    assert_eq!(load(&changed(4, &[3, 0, 0]), 4), (25, 0));
     assert_eq!(load(&changed(44, &[3, 0]), 4), (26, 0));
     assert_eq!(load(&changed(44, &[1, 0]), 9), (27, 0));
     let bad = changed(160, &[0xFF; 4]);

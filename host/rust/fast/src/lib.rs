@@ -1,6 +1,7 @@
 //! Document 01's book by hand, for speed: the baseline that the proved functions are measured against. Running sums,
 //! lent slices, no allocation; rule 10 and every other refusal at every call, as there. Document 02's interval records,
-//! intervals left, test load and bills beside it, and the schedule maker. Quotations are document 01's unless a file says otherwise.
+//! intervals left, test load and bills beside it, and the schedule maker. Limits over an additional link (`routes`) stand alone as yet.
+//! Quotations are document 01's unless a file says otherwise.
 
 #![no_std]
 #![forbid(unsafe_code)]
@@ -15,6 +16,7 @@ mod left;
 pub mod maker;
 mod publishing;
 mod replay;
+pub mod routes;
 mod synthetic;
 
 pub use book::{Book, Opening, Refusal, Report};

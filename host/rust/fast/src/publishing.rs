@@ -10,8 +10,8 @@ struct Limits {
     floors: [i64; REGIONS],
 }
 
-const NO_CAP: i64 = i64::MAX;
-const NO_FLOOR: i64 = i64::MIN;
+pub(crate) const NO_CAP: i64 = i64::MAX;
+pub(crate) const NO_FLOOR: i64 = i64::MIN;
 
 /// Ten-thousandths of a cent in a cent, and in half of one.
 const CENT: i64 = 10_000;
@@ -119,7 +119,7 @@ impl Book {
 }
 
 /// "c × 10,000 / factor", to the nearest ten-thousandth of a cent. A cap limit is above 0.
-fn carried_cap(cap: i64, factor: u32) -> i64 {
+pub(crate) fn carried_cap(cap: i64, factor: u32) -> i64 {
     if cap == NO_CAP {
         return NO_CAP;
     }
@@ -129,7 +129,7 @@ fn carried_cap(cap: i64, factor: u32) -> i64 {
 
 /// "f × factor / 10,000", to the nearest ten-thousandth of a cent, half away from zero. A floor limit is below 0: after seven links
 /// −12,800,000,000,000 at the least, and the product −256,000,000,000,000,000.
-fn carried_floor(floor: i64, factor: u32) -> i64 {
+pub(crate) fn carried_floor(floor: i64, factor: u32) -> i64 {
     if floor == NO_FLOOR {
         return NO_FLOOR;
     }

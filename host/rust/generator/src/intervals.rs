@@ -185,6 +185,14 @@ fn starts(book: &Book, at: usize) -> Vec<usize> {
     starts.map(|start| at + start).collect()
 }
 
+/// The length of the record that begins so far behind its interval's start; a head is as good as a region.
+fn record_length(book: &Book, behind: usize) -> usize {
+    match has_link(book) && behind + LINK == length(book) {
+        true => LINK,
+        false => region_length(markets(book)),
+    }
+}
+
 /// Bytes about which rules turn.
 const MENU: [u8; 13] = [0, 1, 2, 5, 6, 11, 12, 13, 16, 17, 18, 20, 255];
 
@@ -200,13 +208,7 @@ pub(crate) fn damage(random: &mut Random, book: &Book, at: usize, bytes: &mut Ve
         0 => random.word() as u8,
         _ => random.pick(&MENU),
     };
-    let link = has_link(book) && start + LINK == at + length(book);
-    let record = if link {
-        LINK
-    } else {
-        region_length(markets(book))
-    };
-    let end = (start + record).min(bytes.len());
+    let end = (start + record_length(book, start - at.min(start))).min(bytes.len());
     match random.below(11) {
         0 => bytes[anywhere] = value,
         1..=3 => bytes[near] = value,
@@ -228,6 +230,22 @@ pub(crate) fn damage(random: &mut Random, book: &Book, at: usize, bytes: &mut Ve
         _ => {
             let again = bytes[start..end].to_vec();
             bytes.splice(start..start, again);
+        }
+    }
+}
+
+/// One damage to the additional link's record at a place: its length, its kind, a cut within it, or none of it.
+fn damage_link(random: &mut Random, start: usize, bytes: &mut Vec<u8>) {
+    let end = start + LINK;
+    if bytes.len() < end {
+        return;
+    }
+    match random.below(4) {
+        0 => bytes[start] = random.pick(&[0, 6, 12, 13, 15, 20]),
+        1 => bytes[start + 4] = random.pick(&[16, 17, 19]),
+        2 => bytes.truncate(start + random.below(LINK)),
+        _ => {
+            bytes.drain(start..end);
         }
     }
 }
@@ -283,6 +301,9 @@ pub fn reading(random: &mut Random, book: &Book) -> Reading {
     let at = random.pick(&places);
     for _ in 0..random.pick(&[0, 0, 1, 1, 1, 2]) {
         damage(random, &writer, at, &mut bytes);
+    }
+    if has_link(&writer) && random.chance(20) {
+        damage_link(random, at + length(&writer) - LINK, &mut bytes);
     }
     let mut lent = interval(random, book);
     if random.chance(4) {
