@@ -14,7 +14,7 @@ use Rattle.laws.proofs.Tests.{by-test, never}
 use Rattle.laws.proofs.Lists.{length-run}
 use Rattle.pricing.specs.Verdict.{Verdict, accepted, refused, refusedAt}
 use Rattle.book.specs.declared.record.Book.{Book}
-use Rattle.book.specs.Record.{marketsOf, tableSize, ringSize, linkCount, isAccepted}
+use Rattle.book.specs.Record.{marketsOf, tableSize, ringSize, hasLink, linkCount, isAccepted}
 use Rattle.book.specs.Validity.{valid}
 use Rattle.book.proofs.Passes.{passes-not}
 use Rattle.image.specs.Storing.{pricesOk}
@@ -28,6 +28,7 @@ use Rattle.interval_records.specs.InOrder.{orderedVerdict}
 use Rattle.interval_records.proofs.Places.{each-ordered}
 use Rattle.intervals.specs.Lent.{slicesOk}
 use Rattle.intervals.specs.Reading as Reading
+use Rattle.intervals.proofs.Lasts.{last-length}
 use Rattle.bill_lines.specs.declared.lent.Lengths.{Lengths}
 use Rattle.bill_lines.specs.Lent as Lent
 use Rattle.bill_lines.specs.Lent.{lentVerdict}
@@ -107,13 +108,13 @@ module _ (b : Book) (ring : List ℤ) (records : List ℕ) (at : ℕ) (schedule 
   -- the reader's 11 never: it is lent slices of the book's sizes
   blank-sized : slicesOk b (Taking.blank b) ≡ true
   blank-sized =
-      rw (eq-eqb _ _ (length-replicate n (pos 0)), eq-eqb _ _ (length-replicate {A = ℕ} (b .regions) 0), eq-eqb _ _ (length-replicate (linkCount b) (pos 0)))
+      rw (eq-eqb _ _ (length-replicate n (pos 0)), eq-eqb _ _ (length-replicate {A = ℕ} (b .regions) 0), eq-eqb _ _ (length-replicate (linkCount b) (pos 0)), eq-eqb _ _ (length-replicate {A = ℕ} (linkCount b) 0))
       refl
 
-  ordered : From 40 (orderedVerdict (b .regions) M records at)
-  ordered = each-ordered (From 40) (yes 40) (no 40 40 0 (omega arith)) (no 40 41 0 (omega arith)) M records (no 40 45 0 (omega arith)) (b .regions) at
+  ordered : From 40 (orderedVerdict (hasLink b) (b .regions) M records at)
+  ordered = each-ordered (From 40) (yes 40) (no 40 40 0 (omega arith)) (no 40 41 0 (omega arith)) M records (no 40 45 0 (omega arith)) (hasLink b) (b .regions) at
 
-  read-verdict : valid b ≡ true → Reading.readVerdict b (Taking.blank b) records at ≡ orderedVerdict (b .regions) M records at
+  read-verdict : valid b ≡ true → Reading.readVerdict b (Taking.blank b) records at ≡ orderedVerdict (hasLink b) (b .regions) M records at
   unfolding Reading.readVerdict
   read-verdict v = rw (v, blank-sized) refl
 
@@ -135,8 +136,8 @@ module _ (b : Book) (ring : List ℤ) (records : List ℕ) (at : ℕ) (schedule 
         eq-eqb _ _ (f .ring-size),
         eq-eqb _ _ (length-run (Reading.priceFrom M records (at + headLength) (λ r. r)) n 0),
         eq-eqb _ _ (length-run (Reading.markFrom M records (at + headLength) (λ r. r)) (b .regions) 0),
-        eq-eqb _ _ (length-run (Reading.flowFrom M records (at + headLength) (λ r. r)) (b .regions) 0),
-        eq-eqb _ _ (length-run (Reading.factorFrom M records (at + headLength) (λ r. r)) (b .regions) 0),
+        eq-eqb _ _ (last-length (Reading.flowFrom M records (at + headLength) (λ r. r)) (b .regions) (Reading.linkFlow (b .regions) M records (at + headLength)) (hasLink b)),
+        eq-eqb _ _ (last-length (Reading.factorFrom M records (at + headLength) (λ r. r)) (b .regions) (Reading.linkFactor (b .regions) M records (at + headLength)) (hasLink b)),
         eq-eqb _ _ (f .schedule-size),
         eq-eqb _ _ (length-replicate n (pos 0)),
       )
@@ -152,7 +153,7 @@ module _ (b : Book) (ring : List ℤ) (records : List ℕ) (at : ℕ) (schedule 
       (choice (not (leb (entry .offer .kind) 1)) (no 12 14 0 (omega arith))
       (choice (ltb (firstMark (b .regions) (entry .offer .marked)) (b .regions)) (no 12 15 _ (omega arith))
       (choice (ltb (firstPrice (b .regions) M (entry .offer .prices) (entry .offer .marked)) n) (no 12 16 _ (omega arith))
-      (choice (ltb (firstFactor (b .regions) (b .parents) (entry .factors)) (b .regions)) (no 12 17 _ (omega arith))
+      (choice (ltb (firstFactor (linkCount b) (b .regions) (b .parents) (entry .factors)) (linkCount b)) (no 12 17 _ (omega arith))
       (yes 12)))))))
 
   pub step-from : valid b ≡ true → From 12 (Taking.taken b ring records at schedule region .verdict)
