@@ -9,7 +9,7 @@ use native.Mathlib.Omega.{arith}
 use borrow.Author.Tests.{lt-ltb, le-ltb, ltb-false}
 use lib.Dec.{ltb}
 use lib.IntN.{ℤ, pos}
-use lib.ListN.{length, getD, drop, length-append}
+use lib.ListN.{length, getD, drop}
 use lib.Seq.{sets}
 use mir.Syntax.{w32}
 use mir.Val.{ofZ}
@@ -28,7 +28,7 @@ use Rattle.book.specs.Record.{marketsOf, hasLink, verdict, isAccepted}
 use Rattle.book.specs.Validity.{valid}
 use Rattle.book.proofs.Ways.{refusal-is}
 use Rattle.interval_records.specs.Layout.{Interval, intervalOf, headWidths, headLength, regionWidths, regionLength, linkWidths, linkLength, rowOf}
-use Rattle.interval_records.specs.Layout.{intervalLength, lengthFor, headRecord, regionRecord, linkRecord, intervalBytes}
+use Rattle.interval_records.specs.Layout.{lengthFor, headRecord, regionRecord, linkRecord, intervalBytes}
 use Rattle.intervals.specs.Lent.{lengthsOk, slicesOk}
 use Rattle.intervals.specs.Working.{lentVerdict}
 use Rattle.interval_records.proofs.Says.{region-length}
