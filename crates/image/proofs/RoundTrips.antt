@@ -60,7 +60,7 @@ module _ (second : Bool) (b : Book) (ring : List ℤ) (buffer : List ℕ) (t : T
   pub image-length : stored second b ring buffer .length ≡ lengthOf second b
   image-length = rw (ok-stored second b ring buffer ok)
 
-  -- rule 10 accepts that book, and its arrays and ring have their lengths
+  -- rule 10 accepts the book as loading leaves it, and its arrays and ring have their lengths
   pub anew-valid : valid (anew b) ≡ true
   anew-valid = is-valid (anew b) (valid-anew b (ok .book) (b .sums) (ok .book .sum) (ok .book .no-sum))
 
