@@ -45,6 +45,7 @@ use replay::replay;
 use schedule::schedule;
 use synthetic::synthesize;
 ghost use mathlib.Core.Path.{_≡_};
+ghost use mathlib.Core.Bool.{false};
 ghost use Prim.Native.Nat.{_≤_};
 ghost use lib.ListN.{length};
 ghost use lib.Seq.{sets};

@@ -10,7 +10,7 @@
 --
 -- Of a function nothing is used but what its contract in crates/capi says: each line of `Meets` is that contract.
 use mathlib.Core.Path.{_≡_}
-use mathlib.Core.Bool.{_&&_}
+use mathlib.Core.Bool.{false, _&&_}
 use mathlib.Core.List.{List, [], _∷_}
 use Prim.Native.Nat.{ℕ}
 use lib.Dec.{eqb}
