@@ -10,8 +10,8 @@ use Rattle.entries.specs.Entering.{termsOf}
 
 -- "Unused entry and schedule numbers are not looked at", "A region without a parent has no flow or factor looked at". Looked at are
 -- the five lengths, the kind and the R marks; the prices of unmarked regions; of marked ones the schedule's numbers at this
--- interval's place; the flow and the factor of a region that has a parent, and the additional link's. A region whose mark is neither 0 nor 1 has nothing
--- else looked at: 15 refuses the entry. proofs/Unused: entries that are alike come to the same
+-- interval's place; the flow and the factor of a region that has a parent, and the additional link's. A region whose mark is neither 0
+-- nor 1 has nothing else looked at: 15 refuses the entry. proofs/Unused: entries that are alike come to the same
 pub record Alike (b : Book) (e e′ : Entry) : Type 0 where
   pub prices-length : length (e .offer .prices) ≡ length (e′ .offer .prices)
   pub marked-length : length (e .offer .marked) ≡ length (e′ .offer .marked)

@@ -1,6 +1,6 @@
 -- A restart, of a book that agrees with a ledger: stored and loaded it agrees still, and it is refused where the ledger says. Assumes nothing.
 use mathlib.Core.Path.{_≡_, refl, sym, ap, ap₂, _∙_, subst}
-use mathlib.Core.Bool.{Bool, true, false, not, _&&_, _||_}
+use mathlib.Core.Bool.{Bool, true, false, not}
 use mathlib.Core.List.{List}
 use mathlib.Core.Logic.{⊎-elim}
 use Prim.Native.Nat.{ℕ, zero, suc, _+_, _*_, _-_, _≤_, _<_}
@@ -15,7 +15,7 @@ use Rattle.laws.proofs.Tests.{and-right, by-test, lt-or-ge}
 use Rattle.laws.proofs.Lists.{flat-lt, length-run}
 use Rattle.pricing.specs.Verdict.{Verdict, accepted, refused}
 use Rattle.book.specs.declared.record.Book.{Book}
-use Rattle.book.specs.Record.{closed, marketsOf, placeOf, ringSize, isLinked, fromOf, toOf, openedFrom, linksKnown, isAccepted}
+use Rattle.book.specs.Record.{closed, marketsOf, placeOf, ringSize, fromOf, toOf, linksKnown, isAccepted}
 use Rattle.book.specs.Validity.{valid}
 use Rattle.book.proofs.Validities.{Valid, valid-is}
 use Rattle.head.specs.Counted.{inOrder, howMany}

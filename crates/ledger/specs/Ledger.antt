@@ -230,7 +230,8 @@ play p (entry ring number e table) = playEntry p (length ring) number e table
 play p (threshold x) = playSetting p (thresholdVerdict x) (threshold-set x)
 play p (limits c f) = playSetting p (limitsVerdict c f) (limits-set c f)
 play p (report region market) = record { state = p; answer = reported (reportOf p region market) }
-play p (restart second buffer ring) = record { state = p; answer = restarted (restartVerdict (goesSecond second) p (length buffer) (length ring)) }
+play p (restart second buffer ring) =
+    record { state = p; answer = restarted (restartVerdict (goesSecond second) p (length buffer) (length ring)) }
 
 -- P after the opening, or with the settings of an image that stand for the opening's (specs/Demand)
 abbrev pub begin : Settings → Ledger

@@ -18,8 +18,8 @@ ghost use Rattle.publishing.specs.Bounds.{hasLimit, inCents};
 ghost use Rattle.publishing.specs.Published.{tableOf, countOf};
 ghost use Rattle.publishing.specs.Working.{Fine, boundOf, sources, boundsOf, publishedBy, regionPrices, regionCount};
 
-// What the book brings to an interval: its shape, its limits and the position. `markets` is M, services and energy; `from` and `to` are the ends
-// of the additional link, or 255.
+// What the book brings to an interval: its shape, its limits and the position. `markets` is M, services and energy; `from` and `to`
+// are the ends of the additional link, or 255.
 pub struct Terms {
     pub regions: usize,
     pub markets: usize,

@@ -1,8 +1,8 @@
 // Limits that travel over the links between regions (step 4 of "One interval").
 ghost use mathlib.Core.Path.{_≡_};
 ghost use mathlib.Core.Bool.{Bool};
-ghost use Prim.Native.Nat.{ℕ, _≤_, _<_, _+_, _-_, _*_};
-ghost use lib.ListN.{length, getD};
+ghost use Prim.Native.Nat.{ℕ, _<_, _+_, _-_, _*_};
+ghost use lib.ListN.{getD};
 ghost use lib.IntN.{natAbs};
 ghost use Rattle.routes.specs.Limits.{tighter, over, own};
 ghost use Rattle.routes.specs.Links.{extraOf, powerOf, powerAt, powersOf, step};

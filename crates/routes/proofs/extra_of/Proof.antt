@@ -1,5 +1,5 @@
 -- `routes::extra_of` meets its contract: where there is no link no region is its end, and else its flow and factor are there. Assumes nothing.
-use mathlib.Core.Path.{_≡_, refl, sym, _∙_}
+use mathlib.Core.Path.{_≡_, refl, sym}
 use mathlib.Core.Bool.{Bool, true, false, _&&_}
 use mathlib.Core.List.{List}
 use Prim.Native.Nat.{ℕ, _<_}
@@ -8,13 +8,12 @@ use borrow.Author.Needs.{needs}
 use borrow.Author.Tests.{ne-eqb}
 use lib.Dec.{eqb}
 use lib.IntN.{ℤ, pos}
-use lib.ListN.{length, getD}
 use lib.Signed.{ltZ}
 use mir.Syntax.{w32}
 use mir.Val.{SFits}
 use mir.Facts.{toZ-ofZ}
 use Rattle.routes.specs.declared.Network.{Network}
-use Rattle.routes.specs.Links.{lastFlow, lastFactor, extraOf}
+use Rattle.routes.specs.Links.{lastFlow, extraOf}
 use Rattle.routes.proofs.extra_of.Statement.{statement}
 use Rattle.routes.proofs.extra_of.Tie as tie
 
