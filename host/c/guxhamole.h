@@ -16,15 +16,16 @@
    marked, whoever made it; its settings then stand for the opening's, and its position for the first one. For that to hold of a
    host, it
    - begins with an accepted guxhamole_open, or with an accepted guxhamole_load of such an image;
-   - hands each call the book that the call before handed back, accepted or refused; guxhamole_report, guxhamole_store,
+   - hands each call the book that the call before handed back, accepted or refused; guxhamole_report, both stores,
      guxhamole_intervals_left, the three calls of interval records, guxhamole_bill and guxhamole_synthetic hand none back and change
      none, so that the next call gets the same book again;
    - lends the ring that the opening or load was lent, at its full length, and lets these calls alone write to it and to the
      book (both may be copied and moved between calls: what they hold counts, not where they stand);
-   - restarts by a guxhamole_store into a long enough buffer and a guxhamole_load, from exactly the `length` bytes that were
-     stored, into another ring of the right length, and goes on with the book and the ring of that load, in the same process or
-     in a later one. The ledger machine doesn't see a restart: nothing is lost, and no answer is another for it. An older image
-     takes the history back to where it was stored; of one with entries or periods that others made or changed this says nothing.
+   - restarts by a guxhamole_store_kind_2 or a guxhamole_store into a long enough buffer and a guxhamole_load, from exactly the
+     `length` bytes that were stored, into another ring of the right length, and goes on with the book and the ring of that load, in
+     the same process or in a later one. The ledger machine doesn't see a restart: nothing is lost, and no answer is another for it.
+     An older image takes the history back to where it was stored; of one with entries or periods that others made or changed this
+     says nothing.
    Over such a sequence 10 and 22 never occur: either one says that the book or the ring was changed by others.
 
    What no proof speaks of and the host must see to: a slice is a pointer and its length in elements, aligned for its type. No
@@ -48,7 +49,7 @@ extern "C" {
 
 /* A new number wherever a struct or a prototype changes. A host compares it with what the archive answers, once, at its start:
    where they differ, header and archive don't belong together. */
-#define GUXHAMOLE_ABI 1
+#define GUXHAMOLE_ABI 2
 uint32_t guxhamole_abi(void);
 
 /* Bytes of stack that hold any call but the bill and the replay, the bill, and the replay. */
@@ -56,12 +57,18 @@ uint32_t guxhamole_abi(void);
 #define GUXHAMOLE_STACK_BILL 16384
 #define GUXHAMOLE_STACK_REPLAY 20480
 
-/* Lengths in elements, with R regions, S services (so S + 1 markets a region), a window of W prices and H half-hours a day. */
+/* Stands for no region: as a region's parent, and as both ends of the additional link of a book that has none. */
+#define GUXHAMOLE_NONE 255
+
+/* Lengths in elements, with R regions, S services (so S + 1 markets a region), a window of W prices, H half-hours a day and `from`
+   as the book or its settings have it. */
 #define GUXHAMOLE_PRICES(R, S) ((size_t)(R) * ((size_t)(S) + 1))                /* an entry's prices, and its table */
 #define GUXHAMOLE_RING(R, S, W) (GUXHAMOLE_PRICES(R, S) * (size_t)(W))          /* exactly */
 #define GUXHAMOLE_SCHEDULE(R, S, H) (GUXHAMOLE_PRICES(R, S) * 2 * (size_t)(H))  /* an entry's schedule */
-#define GUXHAMOLE_IMAGE_MAX(R, S, W) (148 + 4 * GUXHAMOLE_RING(R, S, W))        /* bytes that hold every image of the book */
-#define GUXHAMOLE_INTERVAL(R, S) (12 + (size_t)(R) * (20 + 4 * (size_t)(S)))    /* bytes of an interval's records, exactly */
+#define GUXHAMOLE_LINKS(R, from) ((size_t)(R) + ((from) != GUXHAMOLE_NONE))     /* an entry's flows, and its factors */
+#define GUXHAMOLE_IMAGE_MAX(R, S, W) (156 + 4 * GUXHAMOLE_RING(R, S, W))        /* bytes that hold every image of the book */
+#define GUXHAMOLE_INTERVAL(R, S, from) \
+    (12 + (size_t)(R) * (20 + 4 * (size_t)(S)) + ((from) != GUXHAMOLE_NONE ? 14 : 0)) /* bytes of an interval's records, exactly */
 #define GUXHAMOLE_MAKER_PRICES(H) ((size_t)(H) * 168)                           /* 28 days of 6 x H prices */
 #define GUXHAMOLE_MAKER_DAYS 28
 #define GUXHAMOLE_TEXT_MAX 21                                                   /* bytes that hold every amount's text */
@@ -76,17 +83,18 @@ enum guxhamole_refusal {
     GUXHAMOLE_DAY_KIND = 14,      /* the day kind is neither 0 nor 1 */
     GUXHAMOLE_MARK = 15,          /* a mark is neither 0 nor 1; place: its region */
     GUXHAMOLE_PRICE = 16,         /* a price is out of its market's range; place: in the lent prices, or among the image's */
-    GUXHAMOLE_FACTOR = 17,        /* the factor of a region that has a parent is outside 10,000..20,000; place: its region */
+    GUXHAMOLE_FACTOR = 17,        /* the factor of a region that has a parent, or of the additional link, is outside
+                                     10,000..20,000; place: its region, or R */
     GUXHAMOLE_THRESHOLD = 18,     /* the threshold is outside 1..100,000,000,000 */
     GUXHAMOLE_LIMITS = 19,        /* the cap is outside 1..10,000,000 or the floor outside -10,000,000..-1 */
-    GUXHAMOLE_SETTING = 20,       /* another setting of an opening is outside its limits */
+    GUXHAMOLE_SETTING = 20,       /* another setting of an opening is outside its limits, the ends of the link among them */
     GUXHAMOLE_MARKET = 21,        /* the region or market that is asked for is not one of the book's */
     GUXHAMOLE_SUMS = 22,          /* a counted price of the ring is out of range, or a sum is not the total of its prices */
     GUXHAMOLE_BUFFER = 23,        /* the buffer is shorter than the image, or than the interval's records */
-    GUXHAMOLE_IMAGE_LENGTH = 24,  /* fewer than 148 bytes, or the image's length field is not the lent length */
-    GUXHAMOLE_IMAGE_KIND = 25,    /* the image's kind is not 1 */
-    GUXHAMOLE_IMAGE_FIELD = 26,   /* a field of bytes 6 to 147 is outside its limits, or an unused one is not zero */
-    GUXHAMOLE_IMAGE_TOTAL = 27,   /* the image's length is not 148 + 4 x markets x (sum of counts) */
+    GUXHAMOLE_IMAGE_LENGTH = 24,  /* fewer than 148 bytes, of kind 2 fewer than 156, or the length field is not the lent length */
+    GUXHAMOLE_IMAGE_KIND = 25,    /* the image's kind is neither 1 nor 2 */
+    GUXHAMOLE_IMAGE_FIELD = 26,   /* a field of bytes 6 to 147, of kind 2 to 155, is outside its limits or not as unused ones are */
+    GUXHAMOLE_IMAGE_TOTAL = 27,   /* the image's length is not 148 (kind 2: 156) + 4 x markets x (sum of counts) */
     GUXHAMOLE_INDEX = 30,         /* a number of the index is outside its limits; answered as -30 */
     GUXHAMOLE_MAKER_LENGTH = 31,  /* half-hours outside 1..48, or not 28 days of prices and kinds */
     GUXHAMOLE_MAKER_KIND = 32,    /* a day kind is neither 0 nor 1, or one of the two is missing */
@@ -97,7 +105,8 @@ enum guxhamole_refusal {
     GUXHAMOLE_PLANNED_PRICE = 43, /* the price of further intervals is outside its market's range of entry prices */
     GUXHAMOLE_HUNDREDS = 44,      /* the threshold is within its range, but no multiple of 10,000: no whole hundreds of dollars */
     GUXHAMOLE_RECORD_ORDER = 45,  /* a region's record isn't the next region's */
-    GUXHAMOLE_BILLED_ENERGY = 46  /* a line's kilowatt-hours are above 1,000,000,000; its place is the line */
+    GUXHAMOLE_BILLED_ENERGY = 46, /* a line's kilowatt-hours are above 1,000,000,000; its place is the line */
+    GUXHAMOLE_IMAGE_FIRST = 47    /* a book with the additional link cannot be stored by kind 1 */
 };
 
 /* What a book is opened with; money in cents. */
@@ -108,6 +117,7 @@ typedef struct guxhamole_settings {
     uint8_t halves;     /* H, half-hours a day, 1..48; a day has 6 x H intervals */
     uint16_t first;     /* the first entry's position in its day, 0..6 x H - 1 */
     uint8_t parents[8]; /* a lower region that is linked to this one, or 255 for none; 255 at 0 and from R up */
+    uint8_t from, to;   /* the ends of the additional link: two regions that are not linked already; 255 and 255 for none */
     int64_t threshold;  /* a multiple of 10,000 in 1..100,000,000,000 */
     int32_t cap;        /* 1..10,000,000 */
     int32_t floor;      /* -10,000,000..-1 */
@@ -118,7 +128,7 @@ typedef struct guxhamole_settings {
 typedef struct guxhamole_book {
     uint8_t regions, services;
     uint16_t window;
-    uint8_t halves, parents[8];
+    uint8_t halves, parents[8], from, to;
     int64_t threshold;  /* a multiple of 10,000, but that of a loaded image, any in the range, until the next setting */
     int32_t cap, floor;
     uint32_t entries;   /* taken; the next entry's number */
@@ -212,8 +222,10 @@ guxhamole_reading guxhamole_report(guxhamole_book book, uint32_t region, uint32_
      prices    R x M in cents, at region x M + market: energy -10,000,000..10,000,000, services 0..10,000,000; those of a marked
                region are not looked at
      marks     R: 1 where the region is priced by schedule, else 0
-     flows     R: above 0 from the region to its parent, below 0 from the parent, 0 none; not looked at without a parent
-     factors   R: the loss factor of the link to the parent, in ten-thousandths, 10,000..20,000; not looked at without a parent
+     flows     R: above 0 from the region to its parent, below 0 from the parent, 0 none; not looked at without a parent. Where the
+               book has the additional link R + 1, the last that link's: above 0 from `from` to `to`, below 0 from `to` to `from`
+     factors   as many: the loss factor of the link to the parent, in ten-thousandths, 10,000..20,000; not looked at without a
+               parent. The last of R + 1 is the additional link's, and is always looked at
      schedule  R x M x 2 x H in cents, at ((region x M + market) x 2 + kind) x H + half-hour; it is lent at every entry, and
                nothing of it is kept
      table     R x M, where the published prices are written, at region x M + market
@@ -247,16 +259,20 @@ guxhamole_left guxhamole_intervals_left(guxhamole_book book, const int32_t *ring
    with M = S + 1 markets a region the records are
      head    length 12 (4 bytes), kind 16 (2), the entry's number (4), its day kind (1), R (1)
      region  length 16 + 4 x M (4 bytes), kind 17 (2), the region (1), its mark (1), flow (4), factor (4) and M prices (4 each)
-   one head and after it regions 0, 1 and so on to R - 1, GUXHAMOLE_INTERVAL(R, S) bytes in all. Intervals stand end to end. In the
-   earlier form the regions follow in any order, each once: guxhamole_interval_rewrite takes it, and nothing else does.
+     link    length 14 (4 bytes), kind 18 (2), flow (4), factor (4): exactly where the book has the additional link
+   one head, after it regions 0, 1 and so on to R - 1, and behind them the link, GUXHAMOLE_INTERVAL(R, S, from) bytes in all. Intervals
+   stand end to end. In the earlier form the regions follow in any order, each once: guxhamole_interval_rewrite takes it, and nothing
+   else does.
 
    guxhamole_interval_read reads the interval at place `at` of the records into the slices that an entry takes, and answers the
    place after it; what stands there is not looked at. Any `at` may be asked for, and one at the end of the records or beyond is
    40. No range is tested: whatever the fields hold is handed on, for the entry to refuse.
      book                    whose R and S it has; which entry is its next doesn't matter
      prices                  R x M, at region x M + market
-     marks, flows, factors   R each
-   Refusals: 10, 11, of the head 40, 41, then region after region 40, 41, 45. Refused: the four slices as they were, and zeros.
+     marks                   R
+     flows, factors          GUXHAMOLE_LINKS(R, from) each
+   Refusals: 10, 11, of the head 40, 41, then region after region 40, 41, 45, then of the link 40, 41. Refused: the four slices as
+   they were, and zeros.
    45 is any other region than the next: one out of its turn, one given before, one from R up. Where the records are of the earlier
    form, rewrite them. The four slices must overlap neither the records nor one another.
 
@@ -265,12 +281,12 @@ guxhamole_left guxhamole_intervals_left(guxhamole_book book, const int32_t *ring
    Refusals: 10, 11, 23. Refused: the buffer as it was. The buffer must overlap none of the slices.
 
    guxhamole_interval_rewrite takes the interval at place `at` of the records, its regions in any order, and writes it as the first
-   bytes of the buffer: the head as it stands, then region 0's record, region 1's and so on, each byte for byte as it stands. The
-   bytes after them stay. It answers the place after the interval that it took, at + GUXHAMOLE_INTERVAL(R, S). Any `at` may be asked
-   for, and no range is tested. An interval that guxhamole_interval_read takes is written as it is, so that a file may be rewritten
-   that has both forms, or again.
-   Refusals: 10, 23, of the head 40, 41, then record after record 40, 41, 42. 23 is told from the book and buffer_length alone. Refused:
-   the buffer as it was, and next is 0. The buffer must not overlap the records.
+   bytes of the buffer: the head as it stands, then region 0's record, region 1's and so on and the link's, each byte for byte as it
+   stands. The bytes after them stay. It answers the place after the interval that it took, at + GUXHAMOLE_INTERVAL(R, S, from). Any
+   `at` may be asked for, and no range is tested. An interval that guxhamole_interval_read takes is written as it is, so that a file
+   may be rewritten that has both forms, or again.
+   Refusals: 10, 23, of the head 40, 41, then record after record 40, 41, 42, then of the link 40, 41. 23 is told from the book and
+   buffer_length alone. Refused: the buffer as it was, and next is 0. The buffer must not overlap the records.
 
    Proved: what was written reads back as the same number, day kind and slices, and what reads is written to the same bytes, so that
    an entry has one form: two places that read to the same one hold the same bytes. What was rewritten reads to the entry that it was
@@ -324,7 +340,7 @@ guxhamole_billed guxhamole_bill(guxhamole_book book, const int32_t *ring, size_t
 /* Draws a synthetic interval, a test load that anyone can remake from its seed, into the slices that an entry takes. Each draw
    replaces s, at first the seed, by (s x 1,664,525 + 1,013,904,223) mod 2^32, and gives d = s div 65,536. The R x M prices are
    drawn in their order, then flow and factor of region 0, flow and factor of region 1 and so on, whether a region has a parent or
-   not: R x M + 2 x R draws. The last s is handed back, as the seed of the next interval.
+   not, and last those of the additional link, where the book has it: R x M + 2 x GUXHAMOLE_LINKS(R, from) draws. The last s is handed back, as the seed of the next interval.
      energy    1,500,000 if d < 64, else d mod 20,000 - 2,000
      service   d mod 3,000
      flow      d mod 2,001 - 1,000
@@ -335,7 +351,8 @@ guxhamole_billed guxhamole_bill(guxhamole_book book, const int32_t *ring, size_t
      seed                    any, 0 too
      entry, day_kind         not tested: handed back as they are given, for the entry to refuse
      prices                  R x M, at region x M + market
-     marks, flows, factors   R each
+     marks                   R
+     flows, factors          GUXHAMOLE_LINKS(R, from) each
    Refusals: 10, 11. Refused: the four slices as they were, and zeros. The four slices must not overlap one another.
    Proved: whatever the seed and the size, an entry refuses nothing of it by 15, 16 or 17.
    It is no call of the list of which the ledger machine is told: it takes nothing, and the book stays as it was. */
@@ -345,16 +362,21 @@ guxhamole_drawn guxhamole_synthetic(guxhamole_book book, uint32_t seed, uint32_t
                                     int32_t *flows, size_t flows_length,
                                     uint32_t *factors, size_t factors_length);
 
-/* Writes the book's image as the first bytes of the buffer, and answers its length; the bytes after it stay.
-   Refusals: 10, 11, 22, 23. Refused: the buffer as it was. GUXHAMOLE_IMAGE_MAX(R, S, W) bytes always suffice. */
+/* Writes the book's image as the first bytes of the buffer, and answers its length; the bytes after it stay. There are two kinds.
+   Kind 2 tells every book: guxhamole_store_kind_2. Kind 1, eight bytes shorter, is the earlier one, for those who read no other:
+   guxhamole_store. It cannot tell the additional link, and refuses a book that has one by 47. A book that was loaded from an image of
+   kind 1 has no such link, and is stored by kind 1 to the very bytes of that image.
+   Refusals: 10, 11, 22, 47 (kind 1 alone), 23. Refused: the buffer as it was. GUXHAMOLE_IMAGE_MAX(R, S, W) bytes always suffice. */
+guxhamole_stored guxhamole_store_kind_2(guxhamole_book book, const int32_t *ring, size_t ring_length,
+                                        uint8_t *image, size_t image_length);
 guxhamole_stored guxhamole_store(guxhamole_book book, const int32_t *ring, size_t ring_length,
                                  uint8_t *image, size_t image_length);
 
-/* The book of an image, lent exactly its bytes, into a ring of the image's R x M x W places. Its threshold may be any in
+/* The book of an image of either kind, lent exactly its bytes, into a ring of the image's R x M x W places. Its threshold may be any in
    1..100,000,000,000 and stays until the next setting: an image is never refused by 44.
    Refusals: 24, 25, 26, 27, 11, 16; place of 16: from 0 among the image's prices. Refused: the closed book, and the ring as it
    was. No image is refused by another rule than its bytes and the ring's length: that it is the host's own market is for the
-   host to see to (regions, services, window, halves and parents of the book). */
+   host to see to (regions, services, window, halves, parents and the link's ends of the book). */
 guxhamole_kept guxhamole_load(const uint8_t *image, size_t length, int32_t *ring, size_t ring_length);
 
 /* Whether a book can be loaded from an image, given a ring of the right length.
@@ -387,7 +409,8 @@ int64_t guxhamole_index(uint64_t amount,
 size_t guxhamole_amount_text(int64_t cents, uint8_t *buffer, size_t buffer_length);
 
 /* Plays a list of calls over a book, from its opening on, and writes their answers; docs/RECORDS.md has the bytes of both. It
-   is for tests and for whole histories: a running host keeps a book instead. With M = S + 1 markets a region:
+   is for tests and for whole histories: a running host keeps a book instead. Its openings have no additional link, and its restarts
+   go by kind 1. With M = S + 1 markets a region:
      calls    the records, end to end, the opening first; not written to
      answers  where the answers are written: 14 bytes a call, for an entry 18 and four a place of its table, for a report 34
      ring     the book's prices: R x M x W places; the opening zeroes them, whatever they held
@@ -423,22 +446,26 @@ size_t guxhamole_replay(const uint8_t *calls, size_t calls_length,
 /* The layouts that the archive was built with. */
 #define GUXHAMOLE_SIZE(type, size) GUXHAMOLE_ASSERT(sizeof(guxhamole_##type) == (size))
 #define GUXHAMOLE_AT(type, field, place) GUXHAMOLE_ASSERT(offsetof(guxhamole_##type, field) == (place))
-GUXHAMOLE_SIZE(settings, 32);
+GUXHAMOLE_SIZE(settings, 40);
 GUXHAMOLE_AT(settings, regions, 0);
 GUXHAMOLE_AT(settings, services, 1);
 GUXHAMOLE_AT(settings, window, 2);
 GUXHAMOLE_AT(settings, halves, 4);
 GUXHAMOLE_AT(settings, first, 6);
 GUXHAMOLE_AT(settings, parents, 8);
-GUXHAMOLE_AT(settings, threshold, 16);
-GUXHAMOLE_AT(settings, cap, 24);
-GUXHAMOLE_AT(settings, floor, 28);
+GUXHAMOLE_AT(settings, from, 16);
+GUXHAMOLE_AT(settings, to, 17);
+GUXHAMOLE_AT(settings, threshold, 24);
+GUXHAMOLE_AT(settings, cap, 32);
+GUXHAMOLE_AT(settings, floor, 36);
 GUXHAMOLE_SIZE(book, 864);
 GUXHAMOLE_AT(book, regions, 0);
 GUXHAMOLE_AT(book, services, 1);
 GUXHAMOLE_AT(book, window, 2);
 GUXHAMOLE_AT(book, halves, 4);
 GUXHAMOLE_AT(book, parents, 5);
+GUXHAMOLE_AT(book, from, 13);
+GUXHAMOLE_AT(book, to, 14);
 GUXHAMOLE_AT(book, threshold, 16);
 GUXHAMOLE_AT(book, cap, 24);
 GUXHAMOLE_AT(book, floor, 28);

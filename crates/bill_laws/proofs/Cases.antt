@@ -13,7 +13,6 @@ use Rattle.pricing.specs.Rounding.{nearest, rounded}
 use Rattle.pricing.specs.Carrying.{carried}
 use Rattle.pricing.specs.Passing.{cents}
 use Rattle.book.specs.declared.record.Book.{Book}
-use Rattle.book.specs.Record.{fromOf, toOf}
 use Rattle.book.specs.Validity.{valid}
 use Rattle.routes.specs.Limits.{tighter, over}
 use Rattle.routes.specs.Links.{extraOf, powerOf}
@@ -40,6 +39,8 @@ linked regions parents = record {
   window = 1;
   halves = 1;
   parents = parents;
+  from = 255;
+  to = 255;
   threshold = pos 90000;
   cap = pos 60000;
   floor = negsuc 59999;
@@ -85,15 +86,15 @@ abbrev after-both : List ℤ
 after-both = pos 100000 ∷ pos 90000 ∷ pos 85000 ∷ []
 
 region-0 : asked 0 (pos 100000) (pos 60000) ≡ yes three after-both
-unfolding billed lentVerdict runs takenInto lineRight readInterval readVerdict orderedVerdict headVerdict dueVerdict linkVerdict whole nextVerdict firstRefusal entered entryVerdict valid fromOf toOf allBelow anyBelow countBelow firstOf numberAt number run minZ maxZ held nearest rounded carried cents inCents tighter over extraOf powerOf along joined after routesFrom overAll limitOf scheduled effective anyAdministered cappedBy hasLimit limit atMost atLeast published
+unfolding billed lentVerdict runs takenInto lineRight readInterval readVerdict orderedVerdict headVerdict dueVerdict linkVerdict whole nextVerdict firstRefusal entered entryVerdict valid allBelow anyBelow countBelow firstOf numberAt number run minZ maxZ held nearest rounded carried cents inCents tighter over extraOf powerOf along joined after routesFrom overAll limitOf scheduled effective anyAdministered cappedBy hasLimit limit atMost atLeast published
 region-0 = refl
 
 region-1 : asked 1 (pos 90000) (pos 54545) ≡ yes three after-both
-unfolding billed lentVerdict runs takenInto lineRight readInterval readVerdict orderedVerdict headVerdict dueVerdict linkVerdict whole nextVerdict firstRefusal entered entryVerdict valid fromOf toOf allBelow anyBelow countBelow firstOf numberAt number run minZ maxZ held nearest rounded carried cents inCents tighter over extraOf powerOf along joined after routesFrom overAll limitOf scheduled effective anyAdministered cappedBy hasLimit limit atMost atLeast published
+unfolding billed lentVerdict runs takenInto lineRight readInterval readVerdict orderedVerdict headVerdict dueVerdict linkVerdict whole nextVerdict firstRefusal entered entryVerdict valid allBelow anyBelow countBelow firstOf numberAt number run minZ maxZ held nearest rounded carried cents inCents tighter over extraOf powerOf along joined after routesFrom overAll limitOf scheduled effective anyAdministered cappedBy hasLimit limit atMost atLeast published
 region-1 = refl
 
 region-2 : asked 2 (pos 85000) (pos 50505) ≡ yes three after-both
-unfolding billed lentVerdict runs takenInto lineRight readInterval readVerdict orderedVerdict headVerdict dueVerdict linkVerdict whole nextVerdict firstRefusal entered entryVerdict valid fromOf toOf allBelow anyBelow countBelow firstOf numberAt number run minZ maxZ held nearest rounded carried cents inCents tighter over extraOf powerOf along joined after routesFrom overAll limitOf scheduled effective anyAdministered cappedBy hasLimit limit atMost atLeast published
+unfolding billed lentVerdict runs takenInto lineRight readInterval readVerdict orderedVerdict headVerdict dueVerdict linkVerdict whole nextVerdict firstRefusal entered entryVerdict valid allBelow anyBelow countBelow firstOf numberAt number run minZ maxZ held nearest rounded carried cents inCents tighter over extraOf powerOf along joined after routesFrom overAll limitOf scheduled effective anyAdministered cappedBy hasLimit limit atMost atLeast published
 region-2 = refl
 
 -- ---- one region: 100,000, then 70,000, which is published at 60,000
@@ -120,42 +121,42 @@ abbrev taken : List ℤ
 taken = pos 70000 ∷ []
 
 right-lines : billed-one (first ++ second) right ≡ yes one taken
-unfolding billed lentVerdict runs takenInto lineRight readInterval readVerdict orderedVerdict headVerdict dueVerdict linkVerdict whole nextVerdict firstRefusal entered entryVerdict valid fromOf toOf allBelow anyBelow countBelow firstOf numberAt number run minZ maxZ held nearest rounded carried cents inCents tighter over extraOf powerOf along joined after routesFrom overAll limitOf scheduled effective anyAdministered cappedBy hasLimit limit atMost atLeast published
+unfolding billed lentVerdict runs takenInto lineRight readInterval readVerdict orderedVerdict headVerdict dueVerdict linkVerdict whole nextVerdict firstRefusal entered entryVerdict valid allBelow anyBelow countBelow firstOf numberAt number run minZ maxZ held nearest rounded carried cents inCents tighter over extraOf powerOf along joined after routesFrom overAll limitOf scheduled effective anyAdministered cappedBy hasLimit limit atMost atLeast published
 right-lines = refl
 
 -- the entry price in place of the published one
 entry-price : billed-one (first ++ second) (linesOf (0 ∷ 1 ∷ []) (3 ∷ 1 ∷ []) (pos 100000 ∷ pos 70000 ∷ []) (pos 300 ∷ pos 70 ∷ [])) ≡ wrong 1 one taken
-unfolding billed lentVerdict runs takenInto lineRight readInterval readVerdict orderedVerdict headVerdict dueVerdict linkVerdict whole nextVerdict firstRefusal entered entryVerdict valid fromOf toOf allBelow anyBelow countBelow firstOf numberAt number run minZ maxZ held nearest rounded carried cents inCents tighter over extraOf powerOf along joined after routesFrom overAll limitOf scheduled effective anyAdministered cappedBy hasLimit limit atMost atLeast published
+unfolding billed lentVerdict runs takenInto lineRight readInterval readVerdict orderedVerdict headVerdict dueVerdict linkVerdict whole nextVerdict firstRefusal entered entryVerdict valid allBelow anyBelow countBelow firstOf numberAt number run minZ maxZ held nearest rounded carried cents inCents tighter over extraOf powerOf along joined after routesFrom overAll limitOf scheduled effective anyAdministered cappedBy hasLimit limit atMost atLeast published
 entry-price = refl
 
 -- the second line is missing
 missing-line : billed-one (first ++ second) (linesOf (0 ∷ []) (3 ∷ []) (pos 100000 ∷ []) (pos 300 ∷ [])) ≡ wrong 1 one taken
-unfolding billed lentVerdict runs takenInto lineRight readInterval readVerdict orderedVerdict headVerdict dueVerdict linkVerdict whole nextVerdict firstRefusal entered entryVerdict valid fromOf toOf allBelow anyBelow countBelow firstOf numberAt number run minZ maxZ held nearest rounded carried cents inCents tighter over extraOf powerOf along joined after routesFrom overAll limitOf scheduled effective anyAdministered cappedBy hasLimit limit atMost atLeast published
+unfolding billed lentVerdict runs takenInto lineRight readInterval readVerdict orderedVerdict headVerdict dueVerdict linkVerdict whole nextVerdict firstRefusal entered entryVerdict valid allBelow anyBelow countBelow firstOf numberAt number run minZ maxZ held nearest rounded carried cents inCents tighter over extraOf powerOf along joined after routesFrom overAll limitOf scheduled effective anyAdministered cappedBy hasLimit limit atMost atLeast published
 missing-line = refl
 
 -- a third line
 surplus-line : billed-one (first ++ second) (linesOf (0 ∷ 1 ∷ 2 ∷ []) (3 ∷ 1 ∷ 0 ∷ []) (pos 100000 ∷ pos 60000 ∷ pos 0 ∷ []) (pos 300 ∷ pos 60 ∷ pos 0 ∷ [])) ≡ wrong 2 one taken
-unfolding billed lentVerdict runs takenInto lineRight readInterval readVerdict orderedVerdict headVerdict dueVerdict linkVerdict whole nextVerdict firstRefusal entered entryVerdict valid fromOf toOf allBelow anyBelow countBelow firstOf numberAt number run minZ maxZ held nearest rounded carried cents inCents tighter over extraOf powerOf along joined after routesFrom overAll limitOf scheduled effective anyAdministered cappedBy hasLimit limit atMost atLeast published
+unfolding billed lentVerdict runs takenInto lineRight readInterval readVerdict orderedVerdict headVerdict dueVerdict linkVerdict whole nextVerdict firstRefusal entered entryVerdict valid allBelow anyBelow countBelow firstOf numberAt number run minZ maxZ held nearest rounded carried cents inCents tighter over extraOf powerOf along joined after routesFrom overAll limitOf scheduled effective anyAdministered cappedBy hasLimit limit atMost atLeast published
 surplus-line = refl
 
 -- no records and no lines: the second ring is the copy
 nothing-billed : billed-one [] (linesOf [] [] [] []) ≡ yes one (pos 0 ∷ [])
-unfolding billed lentVerdict runs takenInto lineRight readInterval readVerdict orderedVerdict headVerdict dueVerdict linkVerdict whole nextVerdict firstRefusal entered entryVerdict valid fromOf toOf allBelow anyBelow countBelow firstOf numberAt number run minZ maxZ held nearest rounded carried cents inCents tighter over extraOf powerOf along joined after routesFrom overAll limitOf scheduled effective anyAdministered cappedBy hasLimit limit atMost atLeast published
+unfolding billed lentVerdict runs takenInto lineRight readInterval readVerdict orderedVerdict headVerdict dueVerdict linkVerdict whole nextVerdict firstRefusal entered entryVerdict valid allBelow anyBelow countBelow firstOf numberAt number run minZ maxZ held nearest rounded carried cents inCents tighter over extraOf powerOf along joined after routesFrom overAll limitOf scheduled effective anyAdministered cappedBy hasLimit limit atMost atLeast published
 nothing-billed = refl
 
 -- 46 has the line, and comes before a wrong line
 too-much-energy : billed-one (first ++ second) (linesOf (9 ∷ 1 ∷ []) (3 ∷ 1000000001 ∷ []) (pos 100000 ∷ pos 60000 ∷ []) (pos 300 ∷ pos 60 ∷ [])) ≡ not-judged (refusedAt 46 1) one taken
-unfolding billed lentVerdict runs takenInto lineRight readInterval readVerdict orderedVerdict headVerdict dueVerdict linkVerdict whole nextVerdict firstRefusal entered entryVerdict valid fromOf toOf allBelow anyBelow countBelow firstOf numberAt number run minZ maxZ held nearest rounded carried cents inCents tighter over extraOf powerOf along joined after routesFrom overAll limitOf scheduled effective anyAdministered cappedBy hasLimit limit atMost atLeast published
+unfolding billed lentVerdict runs takenInto lineRight readInterval readVerdict orderedVerdict headVerdict dueVerdict linkVerdict whole nextVerdict firstRefusal entered entryVerdict valid allBelow anyBelow countBelow firstOf numberAt number run minZ maxZ held nearest rounded carried cents inCents tighter over extraOf powerOf along joined after routesFrom overAll limitOf scheduled effective anyAdministered cappedBy hasLimit limit atMost atLeast published
 too-much-energy = refl
 
 -- the records' refusal comes before 46 and a wrong line
 records-first : billed-one (first ++ second ++ (1 ∷ 2 ∷ 3 ∷ 4 ∷ 5 ∷ [])) (linesOf (9 ∷ 1 ∷ []) (3 ∷ 1000000001 ∷ []) (pos 100000 ∷ pos 60000 ∷ []) (pos 300 ∷ pos 60 ∷ [])) ≡ not-judged (refused 40) one taken
-unfolding billed lentVerdict runs takenInto lineRight readInterval readVerdict orderedVerdict headVerdict dueVerdict linkVerdict whole nextVerdict firstRefusal entered entryVerdict valid fromOf toOf allBelow anyBelow countBelow firstOf numberAt number run minZ maxZ held nearest rounded carried cents inCents tighter over extraOf powerOf along joined after routesFrom overAll limitOf scheduled effective anyAdministered cappedBy hasLimit limit atMost atLeast published
+unfolding billed lentVerdict runs takenInto lineRight readInterval readVerdict orderedVerdict headVerdict dueVerdict linkVerdict whole nextVerdict firstRefusal entered entryVerdict valid allBelow anyBelow countBelow firstOf numberAt number run minZ maxZ held nearest rounded carried cents inCents tighter over extraOf powerOf along joined after routesFrom overAll limitOf scheduled effective anyAdministered cappedBy hasLimit limit atMost atLeast published
 records-first = refl
 
 -- the first interval once more behind itself: the second ring holds what was accepted
 number-again : billed-one (first ++ first) right ≡ not-judged (refused 13) one (pos 100000 ∷ [])
-unfolding billed lentVerdict runs takenInto lineRight readInterval readVerdict orderedVerdict headVerdict dueVerdict linkVerdict whole nextVerdict firstRefusal entered entryVerdict valid fromOf toOf allBelow anyBelow countBelow firstOf numberAt number run minZ maxZ held nearest rounded carried cents inCents tighter over extraOf powerOf along joined after routesFrom overAll limitOf scheduled effective anyAdministered cappedBy hasLimit limit atMost atLeast published
+unfolding billed lentVerdict runs takenInto lineRight readInterval readVerdict orderedVerdict headVerdict dueVerdict linkVerdict whole nextVerdict firstRefusal entered entryVerdict valid allBelow anyBelow countBelow firstOf numberAt number run minZ maxZ held nearest rounded carried cents inCents tighter over extraOf powerOf along joined after routesFrom overAll limitOf scheduled effective anyAdministered cappedBy hasLimit limit atMost atLeast published
 number-again = refl
 
 -- half a cent away from zero: -500 cents for a kilowatt-hour is -0.5, and 500 for three is 1.5
@@ -169,9 +170,9 @@ small =
     16 ∷ 39 ∷ 0 ∷ 0 ∷ 244 ∷ 1 ∷ 0 ∷ 0 ∷ []
 
 half-away : billed-one small (halves (negsuc 0)) ≡ yes one (pos 500 ∷ [])
-unfolding billed lentVerdict runs takenInto lineRight readInterval readVerdict orderedVerdict headVerdict dueVerdict linkVerdict whole nextVerdict firstRefusal entered entryVerdict valid fromOf toOf allBelow anyBelow countBelow firstOf numberAt number run minZ maxZ held nearest rounded carried cents inCents tighter over extraOf powerOf along joined after routesFrom overAll limitOf scheduled effective anyAdministered cappedBy hasLimit limit atMost atLeast published
+unfolding billed lentVerdict runs takenInto lineRight readInterval readVerdict orderedVerdict headVerdict dueVerdict linkVerdict whole nextVerdict firstRefusal entered entryVerdict valid allBelow anyBelow countBelow firstOf numberAt number run minZ maxZ held nearest rounded carried cents inCents tighter over extraOf powerOf along joined after routesFrom overAll limitOf scheduled effective anyAdministered cappedBy hasLimit limit atMost atLeast published
 half-away = refl
 
 half-toward : billed-one small (halves (pos 0)) ≡ wrong 0 one (pos 500 ∷ [])
-unfolding billed lentVerdict runs takenInto lineRight readInterval readVerdict orderedVerdict headVerdict dueVerdict linkVerdict whole nextVerdict firstRefusal entered entryVerdict valid fromOf toOf allBelow anyBelow countBelow firstOf numberAt number run minZ maxZ held nearest rounded carried cents inCents tighter over extraOf powerOf along joined after routesFrom overAll limitOf scheduled effective anyAdministered cappedBy hasLimit limit atMost atLeast published
+unfolding billed lentVerdict runs takenInto lineRight readInterval readVerdict orderedVerdict headVerdict dueVerdict linkVerdict whole nextVerdict firstRefusal entered entryVerdict valid allBelow anyBelow countBelow firstOf numberAt number run minZ maxZ held nearest rounded carried cents inCents tighter over extraOf powerOf along joined after routesFrom overAll limitOf scheduled effective anyAdministered cappedBy hasLimit limit atMost atLeast published
 half-toward = refl

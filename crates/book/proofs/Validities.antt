@@ -15,7 +15,7 @@ use Rattle.laws.proofs.Integers.{up, dn, abs-parts, test-le, le-test, same}
 use Rattle.laws.proofs.Lists.{flat-div, flat-mod}
 use Rattle.pricing.specs.Holding.{limitsOk}
 use Rattle.book.specs.declared.record.Book.{Book}
-use Rattle.book.specs.Record.{placeOf, tableSize, ringSize, fromOf, toOf}
+use Rattle.book.specs.Record.{placeOf, tableSize, ringSize}
 use Rattle.book.specs.Validity.{parentOk, parentsOk, endsOk, shapeOk, thresholdOk, regionOk, placeOk, usedPlace, regionsOk, placesOk, valid}
 use Rattle.laws.proofs.Lists.{all-at, at-all}
 
@@ -29,7 +29,7 @@ pub record Valid (b : Book) : Type 0 where
   pub halves : b .halves ≤ 48
   pub position : b .position < 6 * b .halves
   pub parent : (r : ℕ) → r < 8 → (getD (b .parents) r 0 ≡ 255) ⊎ ((r < b .regions) × (getD (b .parents) r 0 < r))
-  pub ends : endsOk (b .regions) (b .parents) (fromOf b) (toOf b) ≡ true
+  pub ends : endsOk (b .regions) (b .parents) (b .from) (b .to) ≡ true
   pub threshold : thresholdOk (b .threshold) ≡ true
   pub limits : limitsOk (b .cap) (b .floor) ≡ true
   pub entries : b .entries ≤ 10000000
@@ -177,7 +177,7 @@ module _ (R S k : ℕ) where
 -- ---- the whole book
 module _ (b : Book) where
   pub parts : valid b ≡ true → (shapeOk (b .regions) (b .services) (b .window) (b .halves) (b .position) ≡ true) × (parentsOk (b .regions) (b .parents) ≡ true)
-      × (endsOk (b .regions) (b .parents) (fromOf b) (toOf b) ≡ true) × (thresholdOk (b .threshold) ≡ true) × (limitsOk (b .cap) (b .floor) ≡ true) × (leb (b .entries) 10000000 ≡ true)
+      × (endsOk (b .regions) (b .parents) (b .from) (b .to) ≡ true) × (thresholdOk (b .threshold) ≡ true) × (limitsOk (b .cap) (b .floor) ≡ true) × (leb (b .entries) 10000000 ≡ true)
       × (regionsOk (b .regions) (b .window) (b .entries) (b .counts) (b .nexts) ≡ true) × (placesOk (b .regions) (b .services) (b .sums) (b .marks) ≡ true)
   unfolding valid
   parts e = eight _ _ _ _ _ _ _ _ e

@@ -1,11 +1,11 @@
 -- Rule 10 of its parts, that a refusal is none of an acceptance, and what an answer says of its verdict. Assumes nothing.
 use mathlib.Core.Path.{_≡_, refl, sym, ap, _∙_}
-use mathlib.Core.Bool.{Bool, true, false, _&&_}
+use mathlib.Core.Bool.{Bool, false, _&&_}
 use Prim.Native.Nat.{ℕ, _+_, _≤_}
 use native.Mathlib.Omega.{arith}
 use borrow.Author.Tests.{ne-eqb}
 use lib.Dec.{eqb, leb}
-use Rattle.laws.proofs.Tests.{and-assoc, by-test, never}
+use Rattle.laws.proofs.Tests.{and-assoc, by-test}
 use Rattle.pricing.specs.Verdict.{Verdict, accepted}
 use Rattle.pricing.specs.Holding.{limitsOk}
 use Rattle.book.specs.declared.record.Book.{Book}
@@ -13,14 +13,14 @@ use Rattle.book.specs.declared.record.Refusal.{Refusal}
 use Rattle.book.specs.declared.record.Refusal.the-variants.{Invalid, Length, Full, Number, Kind, Mark, Price, Factor, Threshold, Limits, Setting, Market, Sums, Buffer, ImageLength, ImageKind, ImageField, ImageTotal, Broken, RecordKind, RecordRegion, PlannedPrice, Hundreds, RecordOrder, BilledEnergy, ImageFirst}
 use Rattle.book.specs.declared.record.Answer.{Answer}
 use Rattle.book.specs.declared.record.Answer.the-variants.{Accepted, Refused}
-use Rattle.book.specs.Record.{linksWith, fromOf, toOf, hasLink, linksKnown, verdictOf, verdict, isAccepted}
+use Rattle.book.specs.Record.{linksWith, verdictOf, verdict, isAccepted}
 use Rattle.book.specs.Validity.{shapeOk, parentsOk, endsOk, thresholdOk, regionsOk, placesOk, valid}
 
 -- rule 10 of its parts, as the code groups them
 pub valid-by : (b : Book) (s p n t l c k : Bool)
     → s ≡ shapeOk (b .regions) (b .services) (b .window) (b .halves) (b .position)
     → p ≡ parentsOk (b .regions) (b .parents)
-    → n ≡ endsOk (b .regions) (b .parents) (fromOf b) (toOf b)
+    → n ≡ endsOk (b .regions) (b .parents) (b .from) (b .to)
     → t ≡ thresholdOk (b .threshold)
     → l ≡ limitsOk (b .cap) (b .floor)
     → c ≡ regionsOk (b .regions) (b .window) (b .entries) (b .counts) (b .nexts)
@@ -39,11 +39,6 @@ links-most regions from = by-test (eqb from 255) (λ e. rw e (omega arith)) (λ 
 
 pub links-more : (regions from : ℕ) → (from ≡ 255 → ⊥) → linksWith regions from ≡ regions + 1
 links-more regions from n = rw (ne-eqb from 255 n)
-
--- a book that has the additional link is one of those in whose time it is known
-pub link-known : (b : Book) → hasLink b ≡ true → linksKnown ≡ true
-unfolding fromOf
-link-known b e = never true refl (sym e)
 
 -- no case of a refusal has the number of an acceptance
 pub refusal-is : (r : Refusal) → isAccepted (verdictOf r) ≡ false

@@ -1,5 +1,5 @@
 -- The closed book, the sizes of the lent slices, and the paper's number and place of every refusal. Assumes nothing.
-use mathlib.Core.Bool.{Bool, false, not}
+use mathlib.Core.Bool.{Bool, not}
 use mathlib.Core.List.{List}
 use Prim.Native.Nat.{ℕ, _+_, _*_}
 use lib.Dec.{eqb}
@@ -8,7 +8,6 @@ use lib.ListN.{replicate}
 use Rattle.laws.specs.Base.{pick}
 use Rattle.pricing.specs.Verdict.{Verdict, accepted, refused, refusedAt}
 use Rattle.book.specs.declared.record.Book.{Book}
-use Rattle.book.specs.declared.record.Settings.{Settings}
 use Rattle.book.specs.declared.record.Refusal.{Refusal}
 use Rattle.book.specs.declared.record.Refusal.the-variants.{Invalid, Length, Full, Number, Kind, Mark, Price, Factor, Threshold, Limits, Setting, Market, Sums, Buffer, ImageLength, ImageKind, ImageField, ImageTotal, Broken, RecordKind, RecordRegion, PlannedPrice, Hundreds, RecordOrder, BilledEnergy, ImageFirst}
 use Rattle.book.specs.declared.record.Answer.{Answer}
@@ -22,6 +21,8 @@ closed = record {
   window = 0;
   halves = 0;
   parents = replicate 8 0;
+  from = 0;
+  to = 0;
   threshold = pos 0;
   cap = pos 0;
   floor = pos 0;
@@ -55,30 +56,12 @@ isLinked from = not (eqb from none)
 abbrev pub linksWith : ℕ → ℕ → ℕ
 linksWith regions from = pick (isLinked from) (regions + 1) regions
 
--- the ends of a book's additional link. 2026-10 is prepared: the book has no field for them yet, so no book has the link
-unfoldable pub fromOf : Book → ℕ
-fromOf b = none
-
-unfoldable pub toOf : Book → ℕ
-toOf b = none
-
--- and the ends that a book is opened with
-unfoldable pub openedFrom : Settings → ℕ
-openedFrom s = none
-
-unfoldable pub openedTo : Settings → ℕ
-openedTo s = none
-
--- and neither the link's record nor the second kind of image is known yet. What is proved of them holds either way
-unfoldable pub linksKnown : Bool
-linksKnown = false
-
 abbrev pub hasLink : Book → Bool
-hasLink b = isLinked (fromOf b)
+hasLink b = isLinked (b .from)
 
 -- a flow and a factor for each link that a book may have
 abbrev pub linkCount : Book → ℕ
-linkCount b = linksWith (b .regions) (fromOf b)
+linkCount b = linksWith (b .regions) (b .from)
 
 -- "The book record carries 88 sums and 88 period marks, at place 11 × region + market"
 abbrev pub placeOf : ℕ → ℕ → ℕ

@@ -9,7 +9,7 @@ use lib.ListN.{getD}
 use Rattle.laws.specs.Lists.{allBelow}
 use Rattle.pricing.specs.Holding.{limitsOk}
 use Rattle.book.specs.declared.record.Book.{Book}
-use Rattle.book.specs.Record.{none, fromOf, toOf}
+use Rattle.book.specs.Record.{none}
 
 -- "The parent of region r is a lower region linked to it, or 255 for none; region 0 and places from R up hold 255"
 abbrev pub parentOk : ℕ → ℕ → ℕ → Bool
@@ -65,7 +65,7 @@ placesOk regions services sums marks =
 unfoldable pub valid : Book → Bool
 valid b =
     shapeOk (b .regions) (b .services) (b .window) (b .halves) (b .position) && parentsOk (b .regions) (b .parents)
-    && endsOk (b .regions) (b .parents) (fromOf b) (toOf b) && thresholdOk (b .threshold) && limitsOk (b .cap) (b .floor)
+    && endsOk (b .regions) (b .parents) (b .from) (b .to) && thresholdOk (b .threshold) && limitsOk (b .cap) (b .floor)
     && leb (b .entries) 10000000
     && regionsOk (b .regions) (b .window) (b .entries) (b .counts) (b .nexts)
     && placesOk (b .regions) (b .services) (b .sums) (b .marks)

@@ -11,6 +11,8 @@ pub struct Book {
     pub window: u16,
     pub halves: u8,
     pub parents: [u8; 8],
+    pub from: u8,
+    pub to: u8,
     pub threshold: i64,
     pub cap: i32,
     pub floor: i32,
@@ -22,7 +24,7 @@ pub struct Book {
     pub marks: [u8; 88],
 }
 
-// What a book is opened with. `first` is the first position.
+// What a book is opened with. `first` is the first position; `from` and `to` are the ends of the additional link, or 255 and 255 for none.
 #[repr(C)]
 pub struct Settings {
     pub regions: u8,
@@ -31,6 +33,8 @@ pub struct Settings {
     pub halves: u8,
     pub first: u16,
     pub parents: [u8; 8],
+    pub from: u8,
+    pub to: u8,
     pub threshold: i64,
     pub cap: i32,
     pub floor: i32,
@@ -82,6 +86,8 @@ pub fn closed() -> Book
         window: 0,
         halves: 0,
         parents: [0; 8],
+        from: 0,
+        to: 0,
         threshold: 0,
         cap: 0,
         floor: 0,
@@ -179,16 +185,16 @@ pub fn links_with(regions: u8, from: u8) -> usize
     }
 }
 
-// Whether a book has the additional link. No book has a field for it yet.
+// Whether a book has the additional link.
 pub fn has_link(book: Book) -> bool
     ensures { λ x. ⌜ x ≡ hasLink book ⌝ }
 {
-    false
+    book.from != 255
 }
 
 // The places of flows and factors of a book.
 pub fn link_count(book: Book) -> usize
     ensures { λ r. ⌜ r ≡ linkCount book ⌝ }
 {
-    links_with(book.regions, 255)
+    links_with(book.regions, book.from)
 }

@@ -175,6 +175,7 @@ pub fn valid(book: Book) -> bool
         &book.nexts,
     );
     let places = places_ok(regions, book.services as usize, &book.sums, &book.marks);
-    let links = parents_ok(regions, parents) & ends_ok(regions, parents, 255, 255);
+    let links = parents_ok(regions, parents)
+        & ends_ok(regions, parents, book.from as usize, book.to as usize);
     shape & links & limits & (book.entries <= 10000000) & counts & places
 }

@@ -1,7 +1,7 @@
 -- A book that an accepted call hands back is accepted by rule 10, a refused call hands back the lent book, and a setting moves
 -- no report. Assumes nothing.
 use mathlib.Core.Path.{_≡_, refl, sym, ap, _∙_}
-use mathlib.Core.Bool.{Bool, true, false, not}
+use mathlib.Core.Bool.{Bool, true, false, not, _&&_}
 use mathlib.Core.List.{List}
 use mathlib.Core.Logic.{inr}
 use Prim.Native.Nat.{ℕ, _<_}
@@ -15,14 +15,14 @@ use Rattle.pricing.specs.Verdict.{Verdict, accepted, refused}
 use Rattle.pricing.specs.Holding.{limitsOk}
 use Rattle.book.specs.declared.record.Book.{Book}
 use Rattle.book.specs.declared.record.Settings.{Settings}
-use Rattle.book.specs.Record.{closed, ringSize, fromOf, toOf, isAccepted}
+use Rattle.book.specs.Record.{closed, ringSize, isAccepted}
 use Rattle.book.specs.Validity.{parentOk, shapeOk, parentsOk, endsOk, thresholdOk, valid}
-use Rattle.book_calls.specs.Opening.{openVerdict, fresh, opened}
+use Rattle.book_calls.specs.Opening.{settingsOk, openVerdict, fresh, opened}
 use Rattle.book_calls.specs.Setting.{inHundreds, thresholdVerdict, limitsVerdict, withSettings, Outcome, changed, setThreshold, setLimits}
 use Rattle.book_calls.specs.Report.{reportOf, reported}
 use Rattle.laws.proofs.Lists.{all-at}
 use Rattle.book.proofs.Validities.{parts, shape-is, parent-is, Valid, is-valid}
-use Rattle.book_calls.proofs.Ways.{settingsOk, ringOk, open-tests, open-0, threshold-tests, threshold-0}
+use Rattle.book_calls.proofs.Ways.{ringOk, open-tests, open-0, threshold-tests, threshold-0}
 use Rattle.book.proofs.Passes.{passes-not, passes-verdict}
 
 -- ---- rule 10 and the closed book
@@ -59,15 +59,20 @@ module _ (s : Settings) (n : ℕ) (e : isAccepted (openVerdict s n) ≡ true) wh
       × (limitsOk (s .cap) (s .floor) ≡ true)
   accepts = (passed .0, eqb-true _ _ (passed .1), threshold-is (s .threshold) (passed .2) .0, passed .3)
 
-  shape : shapeOk (s .regions) (s .services) (s .window) (s .halves) (s .first) ≡ true
-  shape = and-left (shapeOk (s .regions) (s .services) (s .window) (s .halves) (s .first)) (parentsOk (s .regions) (s .parents)) (accepts .0)
+  abbrev shapes : Bool
+  shapes = shapeOk (s .regions) (s .services) (s .window) (s .halves) (s .first)
 
-  parents : parentsOk (s .regions) (s .parents) ≡ true
-  parents = and-right (shapeOk (s .regions) (s .services) (s .window) (s .halves) (s .first)) (parentsOk (s .regions) (s .parents)) (accepts .0)
+  abbrev parented : Bool
+  parented = parentsOk (s .regions) (s .parents)
 
-  ends : endsOk (s .regions) (s .parents) (fromOf (fresh s)) (toOf (fresh s)) ≡ true
-  unfolding fromOf toOf
-  ends = refl
+  shape : shapes ≡ true
+  shape = and-left shapes parented (and-left (shapes && parented) (endsOk (s .regions) (s .parents) (s .from) (s .to)) (accepts .0))
+
+  parents : parented ≡ true
+  parents = and-right shapes parented (and-left (shapes && parented) (endsOk (s .regions) (s .parents) (s .from) (s .to)) (accepts .0))
+
+  ends : endsOk (s .regions) (s .parents) (s .from) (s .to) ≡ true
+  ends = and-right (shapes && parented) (endsOk (s .regions) (s .parents) (s .from) (s .to)) (accepts .0)
 
   pub fresh-is : Valid (fresh s)
   fresh-is =
@@ -121,7 +126,7 @@ module _ (s : Settings) (ring : List ℤ) where
 -- ---- settings
 module _ (b : Book) (threshold cap floor : ℤ) (ok : valid b ≡ true) (t : thresholdOk threshold ≡ true) (l : limitsOk cap floor ≡ true) where
   pub setting-valid : valid (withSettings b threshold cap floor) ≡ true
-  unfolding valid fromOf toOf
+  unfolding valid
   setting-valid = let p = parts b ok in rw (p .0, p .1, p .2, t, l, p .5, p .6, p .7)
 
   pub setting-report : (region market : ℕ) → reportOf (withSettings b threshold cap floor) region market ≡ reportOf b region market

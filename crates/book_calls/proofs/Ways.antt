@@ -15,16 +15,13 @@ use Rattle.book.specs.declared.record.Refusal.{Refusal}
 use Rattle.book.specs.declared.record.Answer.{Answer}
 use Rattle.book.specs.declared.record.Answer.the-variants.{Accepted, Refused}
 use Rattle.book.specs.Record.{closed, ringSize, verdict, isAccepted}
-use Rattle.book.specs.Validity.{shapeOk, parentsOk, thresholdOk, valid}
+use Rattle.book.specs.Validity.{thresholdOk, valid}
 use Rattle.book.proofs.Ways.{is-accepted, is-refused}
-use Rattle.book_calls.specs.Opening.{openVerdict, fresh, outcome, opened}
+use Rattle.book_calls.specs.Opening.{settingsOk, openVerdict, fresh, outcome, opened}
 use Rattle.book_calls.specs.Setting as Setting
 use Rattle.book_calls.specs.Setting.{inHundreds, thresholdVerdict, limitsVerdict, withSettings, changed, setThreshold, setLimits}
 
 -- ---- opening
-abbrev pub settingsOk : Settings → Bool
-settingsOk s = shapeOk (s .regions) (s .services) (s .window) (s .halves) (s .first) && parentsOk (s .regions) (s .parents)
-
 abbrev pub ringOk : Settings → ℕ → Bool
 ringOk s ring = eqb ring (ringSize (s .regions) (s .services) (s .window))
 

@@ -1,5 +1,5 @@
 -- Opening a book. Assumes nothing.
-use mathlib.Core.Bool.{not, _&&_}
+use mathlib.Core.Bool.{Bool, not, _&&_}
 use mathlib.Core.List.{List}
 use Prim.Native.Nat.{ℕ}
 use lib.Dec.{eqb}
@@ -12,13 +12,19 @@ use Rattle.book.specs.declared.record.Book.{Book}
 use Rattle.book.specs.declared.record.Settings.{Settings}
 use Rattle.book_calls.specs.declared.opening.Opened.{Opened}
 use Rattle.book.specs.Record.{closed, ringSize, verdict, isAccepted}
-use Rattle.book.specs.Validity.{shapeOk, parentsOk}
+use Rattle.book.specs.Validity.{shapeOk, parentsOk, endsOk}
 use Rattle.book_calls.specs.Setting.{thresholdVerdict}
+
+-- 20 "a setting", and "20 bad ends"
+abbrev pub settingsOk : Settings → Bool
+settingsOk s =
+    shapeOk (s .regions) (s .services) (s .window) (s .halves) (s .first) && parentsOk (s .regions) (s .parents)
+    && endsOk (s .regions) (s .parents) (s .from) (s .to)
 
 -- "Open: 20 a setting; 11 ring length; 18 threshold; 19 cap or floor", and 44 "directly after 18"
 unfoldable pub openVerdict : Settings → ℕ → Verdict
 openVerdict s ring =
-    pick (not (shapeOk (s .regions) (s .services) (s .window) (s .halves) (s .first) && parentsOk (s .regions) (s .parents))) (refused 20)
+    pick (not (settingsOk s)) (refused 20)
     (pick (not (eqb ring (ringSize (s .regions) (s .services) (s .window)))) (refused 11)
     (pick (not (isAccepted (thresholdVerdict (s .threshold)))) (thresholdVerdict (s .threshold))
     (pick (not (limitsOk (s .cap) (s .floor))) (refused 19)
@@ -32,6 +38,8 @@ fresh s = record {
   window = s .window;
   halves = s .halves;
   parents = s .parents;
+  from = s .from;
+  to = s .to;
   threshold = s .threshold;
   cap = s .cap;
   floor = s .floor;

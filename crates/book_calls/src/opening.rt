@@ -6,6 +6,7 @@ use book::record::Refusal;
 use book::record::Settings;
 use book::record::closed;
 use book::record::ring_size;
+use book::validity::ends_ok;
 use book::validity::parents_ok;
 use book::validity::shape_ok;
 ghost use mathlib.Core.Path.{_≡_};
@@ -30,7 +31,14 @@ fn open_verdict(settings: Settings, ring: usize) -> Answer
         settings.halves,
         settings.first,
     );
-    if !(shape & parents_ok(settings.regions as usize, parents)) {
+    let regions = settings.regions as usize;
+    let ends = ends_ok(
+        regions,
+        parents,
+        settings.from as usize,
+        settings.to as usize,
+    );
+    if !(shape & parents_ok(regions, parents) & ends) {
         return Answer::Refused(Refusal::Setting);
     }
     if ring != ring_size(settings.regions, settings.services, settings.window) {
@@ -58,6 +66,8 @@ fn fresh(settings: Settings) -> Book
         window: settings.window,
         halves: settings.halves,
         parents,
+        from: settings.from,
+        to: settings.to,
         threshold: settings.threshold,
         cap: settings.cap,
         floor: settings.floor,

@@ -34,6 +34,7 @@ use face::written_of;
 use image::loading::check;
 use image::loading::load;
 use image::storing::store_kind_1;
+use image::storing::store_kind_2;
 use interval_rewriter::rewriting::rewrite_interval;
 use interval_writer::writing::write_interval;
 use intervals::reading::read_interval;
@@ -45,7 +46,7 @@ use replay::replay;
 use schedule::schedule;
 use synthetic::synthesize;
 ghost use mathlib.Core.Path.{_≡_};
-ghost use mathlib.Core.Bool.{false};
+ghost use mathlib.Core.Bool.{false, true};
 ghost use Prim.Native.Nat.{_≤_};
 ghost use lib.ListN.{length};
 ghost use lib.Seq.{sets};
@@ -75,9 +76,9 @@ ghost use Rattle.capi.specs.Host.{year, indexAnswer};
 // The number of these conventions: a host compares it with its header's.
 #[no_mangle]
 pub extern "C" fn guxhamole_abi() -> u32
-    ensures { λ r. ⌜ r ≡ 1 ⌝ }
+    ensures { λ r. ⌜ r ≡ 2 ⌝ }
 {
-    1
+    2
 }
 
 // Opens a book over a ring of exactly R × M × W places.
@@ -156,12 +157,22 @@ pub extern "C" fn guxhamole_enter(
     taken_of(after, publication)
 }
 
-// The image as the first bytes of `image`; the bytes after it stay.
+// The image of kind 1 as the first bytes of `image`; the bytes after it stay. It cannot tell of an additional link.
 #[no_mangle]
 pub extern "C" fn guxhamole_store(book: Book, ring: &[i32], image: &mut [u8]) -> Written
     ensures { λ r. ⌜ storedOf r book (now (image .exit)) ≡ stored false book (now (ring .entry)) (now (image .entry)) ⌝ }
 {
     let stored = store_kind_1(book, ring, image);
+    let answer = stored.image;
+    written_of(answer)
+}
+
+// The image of kind 2.
+#[no_mangle]
+pub extern "C" fn guxhamole_store_kind_2(book: Book, ring: &[i32], image: &mut [u8]) -> Written
+    ensures { λ r. ⌜ storedOf r book (now (image .exit)) ≡ stored true book (now (ring .entry)) (now (image .entry)) ⌝ }
+{
+    let stored = store_kind_2(book, ring, image);
     let answer = stored.image;
     written_of(answer)
 }

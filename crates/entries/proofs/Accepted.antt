@@ -16,7 +16,7 @@ use Rattle.pricing.specs.Verdict.{Verdict, accepted, refusedAt}
 use Rattle.pricing.specs.Holding.{isEnergy, inRange}
 use Rattle.pricing.specs.Carrying.{Factor}
 use Rattle.book.specs.declared.record.Book.{Book}
-use Rattle.book.specs.Record.{marketsOf, tableSize, ringSize, fromOf, linkCount, isAccepted}
+use Rattle.book.specs.Record.{marketsOf, tableSize, ringSize, linkCount, isAccepted}
 use Rattle.book.specs.Validity.{valid}
 use Rattle.book.proofs.Validities.{Valid, valid-is, seven}
 use Rattle.book.proofs.Ways.{links-least, links-more}
@@ -105,8 +105,8 @@ module _ (b : Book) (ring n : ℕ) (e : Entry) (table : ℕ) where
           kind = leb-true (e .offer .kind) 1 (not-false (leb (e .offer .kind) 1) (p14 .0));
           marks = mark-ok (linkCount b) (b .regions) (marketsOf (b .services)) (b .parents) (e .offer .prices) (e .offer .marked) (e .factors) s;
           prices = price-ok (linkCount b) (b .regions) (marketsOf (b .services)) (b .parents) (e .offer .prices) (e .offer .marked) (e .factors) s;
-          factors = factor-ok (linkCount b) (b .regions) (marketsOf (b .services)) (b .parents) (e .offer .prices) (e .offer .marked) (e .factors) s (links-least (b .regions) (fromOf b));
-          extra = λ n. extra-ok (linkCount b) (b .regions) (marketsOf (b .services)) (b .parents) (e .offer .prices) (e .offer .marked) (e .factors) s (rw (links-more (b .regions) (fromOf b) n) (omega arith));
+          factors = factor-ok (linkCount b) (b .regions) (marketsOf (b .services)) (b .parents) (e .offer .prices) (e .offer .marked) (e .factors) s (links-least (b .regions) (b .from));
+          extra = λ n. extra-ok (linkCount b) (b .regions) (marketsOf (b .services)) (b .parents) (e .offer .prices) (e .offer .marked) (e .factors) s (rw (links-more (b .regions) (b .from) n) (omega arith));
         },
         p10 .2 ∙ p11 .2 ∙ p12 .2 ∙ p13 .2 ∙ p14 .2 ∙ tests (linkCount b) (b .regions) (marketsOf (b .services)) (b .parents) (e .offer .prices) (e .offer .marked) (e .factors) s .3,
       )

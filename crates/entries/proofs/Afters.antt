@@ -58,6 +58,8 @@ pub after-is : (b : Book) (v : Valid b) (ring prices : List ℤ) (marked : List 
       window = b .window;
       halves = b .halves;
       parents = b .parents;
+      from = b .from;
+      to = b .to;
       threshold = b .threshold;
       cap = b .cap;
       floor = b .floor;

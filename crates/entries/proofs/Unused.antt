@@ -16,7 +16,7 @@ use Rattle.laws.proofs.Lists.{tabulate-same, firstOf-same}
 use Rattle.pricing.specs.Verdict.{Verdict}
 use Rattle.pricing.specs.Holding.{isEnergy, inRange}
 use Rattle.book.specs.declared.record.Book.{Book}
-use Rattle.book.specs.Record.{marketsOf, placeOf, linksWith, fromOf, linkCount, isAccepted}
+use Rattle.book.specs.Record.{marketsOf, placeOf, linksWith, linkCount, isAccepted}
 use Rattle.book.specs.Validity.{usedPlace}
 use Rattle.book.proofs.Validities.{valid-is}
 use Rattle.book.proofs.Ways.{links-most}
@@ -83,8 +83,8 @@ module _ (b : Book) (e e′ : Entry) (same : Alike b e e′) where
       let p = getD (b .parents) r 255 in
       by-test (eqb r R)
       (λ k. let x = eqb-true r R k in
-      rw x (same .extra (λ z. let m : linkCount b ≡ R = rw (eq-eqb (fromOf b) 255 z) in omega arith) .1))
-      (λ k. let l : r < R = below r R (fromOf b) h (eqb-false r R k) in
+      rw x (same .extra (λ z. let m : linkCount b ≡ R = rw (eq-eqb (b .from) 255 z) in omega arith) .1))
+      (λ k. let l : r < R = below r R (b .from) h (eqb-false r R k) in
       same .linked r l (λ q. never (not (eqb p 255)) (rw k at t) (ap not (eq-eqb p 255 q))) .1)
 
   bad-factor-same : (r : ℕ) → r < linkCount b → badFactor R (b .parents) (e .factors) r ≡ badFactor R (b .parents) (e′ .factors) r

@@ -7,7 +7,7 @@ use lib.ListN.{length}
 use Rattle.laws.specs.Base.{pick}
 use Rattle.pricing.specs.Verdict.{Verdict, accepted, refused}
 use Rattle.book.specs.declared.record.Book.{Book}
-use Rattle.book.specs.Record.{marketsOf, fromOf, toOf, verdictOf, isAccepted}
+use Rattle.book.specs.Record.{marketsOf, verdictOf, isAccepted}
 use Rattle.book.specs.Validity.{valid}
 use Rattle.publishing.specs.declared.Terms.{Terms}
 use Rattle.publishing.specs.Entry.{Entry}
@@ -26,7 +26,7 @@ shapeOf b = record {
   window = b .window;
   halves = b .halves;
   parents = b .parents;
-  from = fromOf b;
+  from = b .from;
 }
 
 -- what the book brings to publishing: its limits, and the position of this entry
@@ -37,8 +37,8 @@ termsOf b = record {
   halves = b .halves;
   position = b .position;
   parents = b .parents;
-  from = fromOf b;
-  to = toOf b;
+  from = b .from;
+  to = b .to;
   cap = b .cap;
   floor = b .floor;
 }
@@ -51,6 +51,8 @@ bookAfter b ring e = record {
   window = b .window;
   halves = b .halves;
   parents = b .parents;
+  from = b .from;
+  to = b .to;
   threshold = b .threshold;
   cap = b .cap;
   floor = b .floor;

@@ -4,7 +4,7 @@ use Prim.Native.Nat.{ℕ, _<_}
 use lib.IntN.{pos}
 use lib.ListN.{length, getD}
 use Rattle.book.specs.declared.record.Book.{Book}
-use Rattle.book.specs.Record.{marketsOf, none, fromOf}
+use Rattle.book.specs.Record.{marketsOf, none}
 use Rattle.publishing.specs.Entry.{Entry, flat, schedulePlace}
 use Rattle.entries.specs.Entering.{termsOf}
 
@@ -27,6 +27,6 @@ pub record Alike (b : Book) (e e′ : Entry) : Type 0 where
       ≡ getD (e′ .offer .schedule) (schedulePlace (termsOf b) (e .offer .kind) r m) (pos 0)
   pub linked : (r : ℕ) → r < b .regions → (getD (b .parents) r 255 ≡ 255 → ⊥)
       → (getD (e .flows) r (pos 0) ≡ getD (e′ .flows) r (pos 0)) × (getD (e .factors) r 0 ≡ getD (e′ .factors) r 0)
-  pub extra : (fromOf b ≡ none → ⊥)
+  pub extra : (b .from ≡ none → ⊥)
       → (getD (e .flows) (b .regions) (pos 0) ≡ getD (e′ .flows) (b .regions) (pos 0))
       × (getD (e .factors) (b .regions) 0 ≡ getD (e′ .factors) (b .regions) 0)

@@ -12,7 +12,7 @@ use Rattle.pricing.specs.Verdict.{Verdict, accepted, refusedAt}
 use Rattle.pricing.specs.Holding.{isEnergy, inRange}
 use Rattle.pricing.specs.Carrying.{Factor}
 use Rattle.book.specs.declared.record.Book.{Book}
-use Rattle.book.specs.Record.{marketsOf, tableSize, ringSize, fromOf, linkCount}
+use Rattle.book.specs.Record.{marketsOf, tableSize, ringSize, linkCount}
 use Rattle.book.specs.Validity.{valid}
 use Rattle.publishing.specs.Entry.{Entry}
 use Rattle.publishing.specs.Published.{tableOf, countOf}
@@ -45,7 +45,7 @@ pub record Accepts (b : Book) (ring n : ℕ) (e : Entry) (table : ℕ) : Type 0 
   pub prices : (r m : ℕ) → r < b .regions → m < marketsOf (b .services) → getD (e .offer .marked) r 0 ≡ 0
       → inRange (isEnergy m) (getD (e .offer .prices) (r * marketsOf (b .services) + m) (pos 0)) ≡ true
   pub factors : (r : ℕ) → r < b .regions → (getD (b .parents) r 255 ≡ 255 → ⊥) → Factor (getD (e .factors) r 0)
-  pub extra : (fromOf b ≡ 255 → ⊥) → Factor (getD (e .factors) (b .regions) 0)
+  pub extra : (b .from ≡ 255 → ⊥) → Factor (getD (e .factors) (b .regions) 0)
 
 -- ---- the call: what an accepted entry leaves
 abbrev pub acceptance : Book → List ℤ → Entry → Outcome

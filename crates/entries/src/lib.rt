@@ -44,8 +44,8 @@ fn terms_of(book: Book) -> Terms
         halves: book.halves as usize,
         position: book.position as usize,
         parents,
-        from: 255,
-        to: 255,
+        from: book.from as usize,
+        to: book.to as usize,
         cap: book.cap,
         floor: book.floor,
     }

@@ -1,6 +1,6 @@
 -- From what a call of the book promised and what was made of its answer to what the host holds. Assumes nothing.
 use mathlib.Core.Path.{_≡_, refl, sym, ap, _∙_}
-use mathlib.Core.Bool.{false, not, _&&_}
+use mathlib.Core.Bool.{Bool, not, _&&_}
 use mathlib.Core.List.{List}
 use Prim.Native.Nat.{ℕ}
 use lib.Dec.{eqb, leb, ltb}
@@ -92,27 +92,27 @@ seen-by r b region market e h =
     ap numbersOf (e ∙ ap seenBy h)
     ∙ ap (λ (p : ℕ). numbersAt o p) (sym (report-place b region market))
 
-module _ (b : Book) (ring : List ℤ) (buffer : List ℕ) where
-  verdict-place : Placeless (storeVerdict false b ring (length buffer))
+module _ (second : Bool) (b : Book) (ring : List ℤ) (buffer : List ℕ) where
+  verdict-place : Placeless (storeVerdict second b ring (length buffer))
   unfolding storeVerdict
   verdict-place =
       either (not (valid b)) (no-place 10)
       (either (not (eqb (length ring) (ringSize (b .regions) (b .services) (b .window)))) (no-place 11)
       (either (not (pricesOk b ring)) (no-place 22)
-      (either (not (kindTells false b)) (no-place 47) (either (ltb (length buffer) (lengthOf false b)) (no-place 23) taken))))
+      (either (not (kindTells second b)) (no-place 47) (either (ltb (length buffer) (lengthOf second b)) (no-place 23) taken))))
 
-  store-place : stored false b ring buffer .verdict .place ≡ 0
+  store-place : stored second b ring buffer .verdict .place ≡ 0
   unfolding stored
   store-place =
-      by-test (isAccepted (storeVerdict false b ring (length buffer))) (λ t. rw t refl) (λ t. rw t (verdict-place .none))
+      by-test (isAccepted (storeVerdict second b ring (length buffer))) (λ t. rw t refl) (λ t. rw t (verdict-place .none))
 
-  store-book : stored false b ring buffer .book ≡ b
+  store-book : stored second b ring buffer .book ≡ b
   unfolding stored
-  store-book = by-test (isAccepted (storeVerdict false b ring (length buffer))) (λ t. rw t refl) (λ t. rw t refl)
+  store-book = by-test (isAccepted (storeVerdict second b ring (length buffer))) (λ t. rw t refl) (λ t. rw t refl)
 
   pub stored-by : (r : Written) {v : Verdict} {n : ℕ} {c : Book} {after : List ℕ} → r ≡ writtenBy v n
-      → record { verdict = v; length = n; book = c; buffer = after } ≡ stored false b ring buffer
-      → storedOf r b after ≡ stored false b ring buffer
+      → record { verdict = v; length = n; book = c; buffer = after } ≡ stored second b ring buffer
+      → storedOf r b after ≡ stored second b ring buffer
   stored-by r {v} {n} {c} {after} e h =
       let p : v .place ≡ 0 = ap (λ (x : Storing.Outcome). x .verdict .place) h ∙ store-place in
       let q : c ≡ b = ap (λ (x : Storing.Outcome). x .book) h ∙ store-book in

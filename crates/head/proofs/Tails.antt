@@ -9,7 +9,6 @@ use lib.Seq.{sets}
 use Rattle.laws.specs.Bytes.{le, encode}
 use Rattle.laws.proofs.Bytes.{sets-append}
 use Rattle.book.specs.declared.record.Book.{Book}
-use Rattle.book.specs.Record.{fromOf, toOf}
 use Rattle.head.specs.Layout.{widths, kindOf, headSize, tailWidths, tail, tailOf, values, frontOf}
 
 -- where the prices start
@@ -22,7 +21,7 @@ unfolding encode tailWidths tail le
 tail-length b = refl
 
 -- four puts one after the other
-pub tail-puts : (b : Book) (d d₁ d₂ d₃ d₄ : List ℕ) (x y : ℕ) → x ≡ fromOf b → y ≡ toOf b → d₁ ≡ sets d 148 (le 1 x) → d₂ ≡ sets d₁ 149 (le 1 y)
+pub tail-puts : (b : Book) (d d₁ d₂ d₃ d₄ : List ℕ) (x y : ℕ) → x ≡ b .from → y ≡ b .to → d₁ ≡ sets d 148 (le 1 x) → d₂ ≡ sets d₁ 149 (le 1 y)
     → d₃ ≡ sets d₂ 150 (le 2 0) → d₄ ≡ sets d₃ 152 (le 4 4294967295) → d₄ ≡ sets d 148 (encode tailWidths (tail b))
 unfolding encode tailWidths tail le
 tail-puts b d d₁ d₂ d₃ d₄ x y p q e₁ e₂ e₃ e₄ = rw (e₄, e₃, e₂, e₁, p, q) refl

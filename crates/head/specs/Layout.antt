@@ -12,7 +12,7 @@ use Rattle.laws.specs.Base.{pick}
 use Rattle.laws.specs.Lists.{tabulate}
 use Rattle.laws.specs.Bytes.{numberAt, encode, decode, words}
 use Rattle.book.specs.declared.record.Book.{Book}
-use Rattle.book.specs.Record.{none, fromOf, toOf}
+use Rattle.book.specs.Record.{none}
 use Rattle.head.specs.Counted.{counted, howMany}
 
 -- "0: length, 4 bytes. 4: kind 1, 2 bytes. 6: R. 7: S. 8: W, 2 bytes. 10: H. 11: zero. 12: parents. 20: entries taken,
@@ -52,7 +52,7 @@ unfoldable pub tailWidths : List ℕ
 tailWidths = 1 ∷ 1 ∷ 2 ∷ 4 ∷ []
 
 unfoldable pub tail : Book → List ℕ
-tail b = fromOf b ∷ toOf b ∷ 0 ∷ 4294967295 ∷ []
+tail b = b .from ∷ b .to ∷ 0 ∷ 4294967295 ∷ []
 
 abbrev pub tailOf : Bool → Book → List ℕ
 tailOf second b = pick second (encode tailWidths (tail b)) []
@@ -81,14 +81,16 @@ imageOf second b ring =
 abbrev pub nextOf : ℕ → ℕ → ℕ
 nextOf w count = pick (ltb count w) count 0
 
--- the book that the numbers of the fields say, with these sums
-unfoldable pub bookOf : List ℕ → List ℤ → Book
-bookOf vs sums = record {
+-- the book that the numbers of the fields say, with these ends and sums
+unfoldable pub bookOf : List ℕ → ℕ → ℕ → List ℤ → Book
+bookOf vs from to sums = record {
   regions = getD vs 2 0;
   services = getD vs 3 0;
   window = getD vs 4 0;
   halves = getD vs 5 0;
   parents = take 8 (drop 7 vs);
+  from = from;
+  to = to;
   threshold = toZ w64 (getD vs 18 0);
   cap = toZ w32 (getD vs 19 0);
   floor = toZ w32 (getD vs 20 0);
@@ -115,4 +117,4 @@ toIn bytes = endIn bytes 149
 
 -- the book of an image's head, before its sums are added up
 abbrev pub headFrom : List ℕ → Book
-headFrom bytes = bookOf (decode widths bytes) (replicate 88 (pos 0))
+headFrom bytes = bookOf (decode widths bytes) (fromIn bytes) (toIn bytes) (replicate 88 (pos 0))

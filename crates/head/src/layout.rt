@@ -145,13 +145,13 @@ fn put_head(book: Book, size: u32, second: bool, buffer: &mut [u8])
     }
 }
 
-// What kind 2 has between the head and the prices: the ends, two zeros and four bytes that are kept. No book has ends yet.
+// What kind 2 has between the head and the prices: the ends, two zeros and four bytes that are kept.
 fn put_tail(book: Book, buffer: &mut [u8])
     requires { ⌜ 156 ≤ length (now buffer) ⌝ }
     ensures { λ _. ⌜ now (buffer .exit) ≡ sets (now (buffer .entry)) 148 (encode tailWidths (tail book)) ⌝ }
 {
-    put(buffer, 148, 1, 255);
-    put(buffer, 149, 1, 255);
+    put(buffer, 148, 1, book.from as u64);
+    put(buffer, 149, 1, book.to as u64);
     put(buffer, 150, 2, 0);
     put(buffer, 152, 4, 4294967295);
 }
@@ -242,7 +242,7 @@ pub fn end_in(bytes: &[u8], at: usize) -> u8
 
 // The book that an image's head says, before its sums are added up.
 pub fn head_from(bytes: &[u8]) -> Book
-    requires { ⌜ 148 ≤ length (now bytes) ⌝ }
+    requires { ⌜ (148 ≤ length (now bytes)) × (isSecond (now bytes) ≡ true → 156 ≤ length (now bytes)) ⌝ }
     ensures { λ r. ⌜ r ≡ headFrom (now (bytes .entry)) ⌝ }
 {
     let window = get_u16(bytes, 8);
@@ -250,12 +250,16 @@ pub fn head_from(bytes: &[u8]) -> Book
     let nexts = next_places(window, counts);
     let parents = get_eight(bytes, 12);
     let marks = read_marks(bytes);
+    let from = end_in(bytes, 148);
+    let to = end_in(bytes, 149);
     Book {
         regions: get_u8(bytes, 6),
         services: get_u8(bytes, 7),
         window,
         halves: get_u8(bytes, 10),
         parents,
+        from,
+        to,
         threshold: signed64(get(bytes, 28, 8)),
         cap: get_word(bytes, 36),
         floor: get_word(bytes, 40),

@@ -18,7 +18,7 @@ use Rattle.book.proofs.Validities.{Valid}
 use Rattle.head.specs.Counted.{marketCount, countAt, oldestAt, inOrder}
 use Rattle.head.specs.Layout.{nextOf}
 use Rattle.image.proofs.Markets.{region-of, count-of}
-use Rattle.image.proofs.Books.{anewWith, anew-from, anew-to}
+use Rattle.image.proofs.Books.{anewWith}
 use Rattle.image.proofs.Prices.{laid, laid-order}
 
 -- ---- the next place of a window whose oldest price is first
@@ -71,7 +71,7 @@ module _ (b : Book) (v : Valid b) (s : List ℤ) where
     halves = v .halves;
     position = v .position;
     parent = v .parent;
-    ends = rw (anew-from b s, anew-to b s) (v .ends);
+    ends = v .ends;
     threshold = v .threshold;
     limits = v .limits;
     entries = v .entries;

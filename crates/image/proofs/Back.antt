@@ -21,7 +21,7 @@ use Rattle.laws.proofs.Joined.{sum-below, tabulate-list, joined-same, joined-at
 use Rattle.laws.proofs.Words.{price-back}
 use Rattle.pricing.specs.Holding.{isEnergy}
 use Rattle.book.specs.declared.record.Book.{Book}
-use Rattle.book.specs.Record.{none, marketsOf, ringSize, fromOf, toOf, linksKnown}
+use Rattle.book.specs.Record.{none, marketsOf, ringSize}
 use Rattle.book.proofs.Validities.{Valid}
 use Rattle.head.specs.Counted.{marketCount, countAt, inOrder, counted, howMany}
 use Rattle.head.specs.Layout.{widths, kindOf, headSize, lengthOf, firsts, seconds, values, tailWidths, tail, tailOf, imageOf, isSecond, fromIn, toIn, bookOf, headFrom}
@@ -31,7 +31,7 @@ use Rattle.image.proofs.Markets.{price-fits, marketAt, at-below, at-pla
 use Rattle.head.proofs.Heads.{field-at, value-first, value-second}
 use Rattle.image.proofs.Typed.{Typed, threshold-fits, limits-fit, ends-are, tail-fits, fit-of}
 use Rattle.image.proofs.Lengths.{head-length, front-length, length-counted, length-image}
-use Rattle.image.proofs.Books.{anewWith, anew-from, anew-to, book-values}
+use Rattle.image.proofs.Books.{anewWith, book-values}
 use Rattle.image.proofs.Verdicts.{HeadOk, LoadOk, StoreOk}
 use Rattle.image.proofs.Prices.{MarketOk, prices-ok, laid}
 use Rattle.image.proofs.Anew.{valid-anew}
@@ -40,7 +40,7 @@ use Rattle.image.proofs.There.{sumsRead, book-is, ring-is}
 abbrev pub zeros : List ℤ
 zeros = replicate 88 (pos 0)
 
-module _ (second : Bool) (b : Book) (ring : List ℤ) (n : ℕ) (t : Typed b) (ok : StoreOk second b ring n) (known : second ≡ true → linksKnown ≡ true) where
+module _ (second : Bool) (b : Book) (ring : List ℤ) (n : ℕ) (t : Typed b) (ok : StoreOk second b ring n) where
   abbrev first : ℕ
   first = headSize second
 
@@ -81,26 +81,26 @@ module _ (second : Bool) (b : Book) (ring : List ℤ) (n : ℕ) (t : Typed b) (o
       rw (← drop-drop at 148 bytes) (sym (decode-at tailWidths (drop 148 bytes) j h ∙ rw (p, q)) ∙ ap (λ (vs : List ℕ). getD vs j 0) (tail-numbers e))
 
   -- an image of kind 1 is of a book without the link
-  no-ends : second ≡ false → (fromOf b ≡ none) × (toOf b ≡ none)
-  no-ends e = go (fromOf b) (toOf b) (rw e at (ok .tells)) (ends-are (b .regions) (b .parents) (fromOf b) (toOf b) (v .ends))
+  no-ends : second ≡ false → (b .from ≡ none) × (b .to ≡ none)
+  no-ends e = go (b .from) (b .to) (rw e at (ok .tells)) (ends-are (b .regions) (b .parents) (b .from) (b .to) (v .ends))
     where
       go : (from to : ℕ) → not (not (eqb from none)) ≡ true → ((from ≡ none) × (to ≡ none)) ⊎ ((from < b .regions) × (to < b .regions)) → (from ≡ none) × (to ≡ none)
       go from to h (inl q) = q
       go from to h (inr q) = let n : from ≡ none → ⊥ = λ z. omega (arith, q .0, v .regions) in absurd (true-is (rw (ne-eqb from none n) at h))
 
-  from-back : fromIn bytes ≡ fromOf b
+  from-back : fromIn bytes ≡ b .from
   unfolding tailWidths tail sizeOf
   from-back = rw second-is (go second refl)
     where
-      go : (s : Bool) → second ≡ s → pick s (numberAt bytes 148 1) none ≡ fromOf b
+      go : (s : Bool) → second ≡ s → pick s (numberAt bytes 148 1) none ≡ b .from
       go true e = tail-at e 0 0 1 (omega arith) refl refl
       go false e = sym (no-ends e .0)
 
-  to-back : toIn bytes ≡ toOf b
+  to-back : toIn bytes ≡ b .to
   unfolding tailWidths tail sizeOf
   to-back = rw second-is (go second refl)
     where
-      go : (s : Bool) → second ≡ s → pick s (numberAt bytes 149 1) none ≡ toOf b
+      go : (s : Bool) → second ≡ s → pick s (numberAt bytes 149 1) none ≡ b .to
       go true e = tail-at e 1 1 1 (omega arith) refl refl
       go false e = sym (no-ends e .1)
 
@@ -108,11 +108,12 @@ module _ (second : Bool) (b : Book) (ring : List ℤ) (n : ℕ) (t : Typed b) (o
   unfolding tailWidths tail sizeOf
   zeros-back e = let k : second ≡ true = sym second-is ∙ e in (tail-at k 2 2 2 (omega arith) refl refl, tail-at k 3 4 4 (omega arith) refl refl)
 
-  head-back : (s : List ℤ) → bookOf (decode widths bytes) s ≡ anewWith b s
+  head-back : (s : List ℤ) → bookOf (decode widths bytes) (fromIn bytes) (toIn bytes) s ≡ anewWith b s
   head-back s =
       let l = limits-fit (b .cap) (b .floor) (v .limits) in
-      ap (λ (vs : List ℕ). bookOf vs s) numbers
-      ∙ book-values (lengthOf second b) (kindOf second) b (t .parents) (t .counts) (t .marks) s (threshold-fits (b .threshold) (v .threshold)) (l .0) (l .1)
+      rw (from-back, to-back)
+      (ap (λ (vs : List ℕ). bookOf vs (b .from) (b .to) s) numbers
+      ∙ book-values (lengthOf second b) (kindOf second) b (t .parents) (t .counts) (t .marks) s (threshold-fits (b .threshold) (v .threshold)) (l .0) (l .1))
 
   pub head-is : headFrom bytes ≡ anewWith b zeros
   head-is = head-back zeros
@@ -162,12 +163,9 @@ module _ (second : Bool) (b : Book) (ring : List ℤ) (n : ℕ) (t : Typed b) (o
     long = rw second-is (omega (arith, length-image second b ring v (head-length (lengthOf second b) (kindOf second) b t)));
     size = first-at 0 0 4 (omega arith) refl refl ∙ sym (length-image second b ring v (head-length (lengthOf second b) (kindOf second) b t));
     kind = rw second-is kind-back;
-    known = λ t. known (sym second-is ∙ t);
     zero = first-at 6 11 1 (omega arith) refl refl;
     zeros = second-at;
     tail = zeros-back;
-    from = from-back ∙ sym (ap fromOf head-is ∙ anew-from b zeros);
-    to = to-back ∙ sym (ap toOf head-is ∙ anew-to b zeros);
     book = rw head-is valid-head;
     sized = rw (head-is, second-is) (length-image second b ring v (head-length (lengthOf second b) (kindOf second) b t));
   }

@@ -13,7 +13,7 @@ use Rattle.laws.proofs.Tests.{never}
 use Rattle.laws.proofs.Lists.{length-run}
 use Rattle.pricing.specs.Verdict.{accepted, refused}
 use Rattle.book.specs.declared.record.Book.{Book}
-use Rattle.book.specs.Record.{closed, ringSize, hasLink, linksKnown, isAccepted}
+use Rattle.book.specs.Record.{closed, ringSize, hasLink, isAccepted}
 use Rattle.book.specs.Validity.{valid}
 use Rattle.book_calls.specs.Report.{reportOf}
 use Rattle.book.proofs.Validities.{is-valid}
@@ -23,7 +23,7 @@ use Rattle.image.specs.Storing.{pricesOk, stored}
 use Rattle.image.specs.Loading.{ringOf, loadVerdict, bookFrom, ringFrom, loaded, checked}
 use Rattle.image.specs.Same.{Same}
 use Rattle.image.proofs.Typed.{Typed}
-use Rattle.image.proofs.Books.{anewWith, anew-from, anew-to}
+use Rattle.image.proofs.Books.{anewWith}
 use Rattle.image.proofs.Markets.{count-of}
 use Rattle.image.proofs.Verdicts.{StoreOk, LoadOk, loaded-ok, ok-loaded, stored-ok, ok-stored, other-ring}
 use Rattle.image.proofs.Prices.{laid, length-laid}
@@ -44,10 +44,6 @@ anew b = anewWith b (b .sums)
 -- and its ring: window after window the counted prices, oldest first, and zeros behind
 abbrev pub relaid : Book → List ℤ → List ℤ
 relaid b ring = laid b (inOrder b ring)
-
--- kind 1 is known at any time
-pub first-known : false ≡ true → linksKnown ≡ true
-first-known e = never false e refl
 
 module _ (second : Bool) (b : Book) (ring : List ℤ) (buffer : List ℕ) (t : Typed b) (e : isAccepted (stored second b ring buffer .verdict) ≡ true) where
   ok : StoreOk second b ring (length buffer)
@@ -78,8 +74,8 @@ module _ (second : Bool) (b : Book) (ring : List ℤ) (buffer : List ℕ) (t : T
     window = refl;
     halves = refl;
     parents = refl;
-    from = sym (anew-from b (b .sums));
-    to = sym (anew-to b (b .sums));
+    from = refl;
+    to = refl;
     threshold = refl;
     cap = refl;
     floor = refl;
@@ -95,32 +91,30 @@ module _ (second : Bool) (b : Book) (ring : List ℤ) (buffer : List ℕ) (t : T
     accepted′ = anew-valid;
   }
 
-  -- where the kind is known: kind 1 is, and kind 2 wherever a book has the link
-  module _ (known : second ≡ true → linksKnown ≡ true) where
-    -- A book whose store is accepted, loaded from exactly its image's bytes into any ring of its length: accepted, and the book and
-    -- the ring are those two, whatever the ring held
-    pub load-of-store : (g : List ℤ) → length g ≡ ringSize (b .regions) (b .services) (b .window)
-        → loaded (take (lengthOf second b) (stored second b ring buffer .buffer)) g ≡ record { verdict = accepted; book = anew b; ring = relaid b ring }
-    load-of-store g h =
-        let n = length buffer in
-        rw (image-bytes, ok-loaded (imageOf second b ring) g (load-back second b ring n t ok known (length g) h), book-back second b ring n t ok known, ring-back second b ring n t ok known)
+  -- A book whose store is accepted, loaded from exactly its image's bytes into any ring of its length: accepted, and the book and
+  -- the ring are those two, whatever the ring held
+  pub load-of-store : (g : List ℤ) → length g ≡ ringSize (b .regions) (b .services) (b .window)
+      → loaded (take (lengthOf second b) (stored second b ring buffer .buffer)) g ≡ record { verdict = accepted; book = anew b; ring = relaid b ring }
+  load-of-store g h =
+      let n = length buffer in
+      rw (image-bytes, ok-loaded (imageOf second b ring) g (load-back second b ring n t ok (length g) h), book-back second b ring n t ok, ring-back second b ring n t ok)
 
-    -- the same from as many bytes as the answer says
-    pub reload : (g : List ℤ) → length g ≡ ringSize (b .regions) (b .services) (b .window)
-        → loaded (take (stored second b ring buffer .length) (stored second b ring buffer .buffer)) g ≡ record { verdict = accepted; book = anew b; ring = relaid b ring }
-    reload g h = rw image-length (load-of-store g h)
+  -- the same from as many bytes as the answer says
+  pub reload : (g : List ℤ) → length g ≡ ringSize (b .regions) (b .services) (b .window)
+      → loaded (take (stored second b ring buffer .length) (stored second b ring buffer .buffer)) g ≡ record { verdict = accepted; book = anew b; ring = relaid b ring }
+  reload g h = rw image-length (load-of-store g h)
 
-    -- into a ring of another length: 11
-    pub load-other-ring : (g : List ℤ) → eqb (length g) (ringSize (b .regions) (b .services) (b .window)) ≡ false
-        → loaded (take (lengthOf second b) (stored second b ring buffer .buffer)) g ≡ record { verdict = refused 11; book = closed; ring = g }
-    load-other-ring g h =
-        let n = length buffer in
-        rw image-bytes
-        (other-ring (imageOf second b ring) g (load-back second b ring n t ok known (ringSize (b .regions) (b .services) (b .window)) refl .head) (rw (head-is second b ring n t ok known) h))
+  -- into a ring of another length: 11
+  pub load-other-ring : (g : List ℤ) → eqb (length g) (ringSize (b .regions) (b .services) (b .window)) ≡ false
+      → loaded (take (lengthOf second b) (stored second b ring buffer .buffer)) g ≡ record { verdict = refused 11; book = closed; ring = g }
+  load-other-ring g h =
+      let n = length buffer in
+      rw image-bytes
+      (other-ring (imageOf second b ring) g (load-back second b ring n t ok (ringSize (b .regions) (b .services) (b .window)) refl .head) (rw (head-is second b ring n t ok) h))
 
-    pub stored-loads-same : (g : List ℤ) → length g ≡ ringSize (b .regions) (b .services) (b .window)
-        → Same b ring (loaded (take (lengthOf second b) (stored second b ring buffer .buffer)) g .book) (loaded (take (lengthOf second b) (stored second b ring buffer .buffer)) g .ring)
-    stored-loads-same g h = rw (load-of-store g h) anew-same
+  pub stored-loads-same : (g : List ℤ) → length g ≡ ringSize (b .regions) (b .services) (b .window)
+      → Same b ring (loaded (take (lengthOf second b) (stored second b ring buffer .buffer)) g .book) (loaded (take (lengthOf second b) (stored second b ring buffer .buffer)) g .ring)
+  stored-loads-same g h = rw (load-of-store g h) anew-same
 
 -- ---- 2. and 3., of bytes whose load into some ring is accepted
 module _ (bytes : List ℕ) (ring : List ℤ) (e : isAccepted (loaded bytes ring .verdict) ≡ true) where
@@ -147,10 +141,6 @@ module _ (bytes : List ℕ) (ring : List ℤ) (e : isAccepted (loaded bytes ring
   -- a book loaded from kind 1 has no link, so that it "can be stored back to the very kind 1 image": 47 does not occur
   pub loaded-first : isSecond bytes ≡ false → hasLink (bookFrom bytes) ≡ false
   loaded-first k = rw (from-is bytes (length ring) good, k)
-
-  -- and kind 2 loads only where it is known
-  pub loaded-known : isSecond bytes ≡ true → linksKnown ≡ true
-  loaded-known = good .head .known
 
   -- 3. a book just loaded is accepted by rule 10, its ring has its length, it never meets 22, and its arrays have their lengths
   pub loaded-valid : valid (bookFrom bytes) ≡ true

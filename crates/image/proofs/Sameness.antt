@@ -12,7 +12,7 @@ use Rattle.laws.specs.Bytes.{encode, words}
 use Rattle.laws.proofs.Joined.{joined-same}
 use Rattle.pricing.specs.Verdict.{Verdict, accepted}
 use Rattle.book.specs.declared.record.Book.{Book}
-use Rattle.book.specs.Record.{marketsOf, ringSize, fromOf, toOf, isAccepted}
+use Rattle.book.specs.Record.{marketsOf, ringSize, isAccepted}
 use Rattle.book.specs.Validity.{valid}
 use Rattle.book_calls.specs.Report.{reportOf}
 use Rattle.head.specs.Counted.{marketCount, inOrder}
@@ -108,6 +108,8 @@ withNexts b nexts = record {
   window = b .window;
   halves = b .halves;
   parents = b .parents;
+  from = b .from;
+  to = b .to;
   threshold = b .threshold;
   cap = b .cap;
   floor = b .floor;
@@ -121,7 +123,7 @@ withNexts b nexts = record {
 
 pub same-book : {a b : Book} {r s : List ℤ} → Same a r b s → withNexts a (b .nexts) ≡ b
 same-book {a} {b} p =
-    rw (p .regions, p .services, p .window, p .halves, p .parents, p .threshold, p .cap, p .floor, p .entries, p .position, p .counts, p .sums, p .marks)
+    rw (p .regions, p .services, p .window, p .halves, p .parents, p .from, p .to, p .threshold, p .cap, p .floor, p .entries, p .position, p .counts, p .sums, p .marks)
 
 -- ---- reports
 nexts-report : (b : Book) (nexts : List ℕ) → valid b ≡ true → valid (withNexts b nexts) ≡ true → (region market : ℕ) → reportOf b region market ≡ reportOf (withNexts b nexts) region market
@@ -166,11 +168,10 @@ module _ (second : Bool) (b : Book) (nexts : List ℕ) (r s : List ℤ) (prices 
 
   -- the ends are no next places
   nexts-tail : tail b ≡ tail (withNexts b nexts)
-  unfolding tail fromOf toOf
+  unfolding tail
   nexts-tail = refl
 
   nexts-tells : kindTells second b ≡ kindTells second (withNexts b nexts)
-  unfolding fromOf
   nexts-tells = refl
 
   nexts-image : imageOf second b r ≡ imageOf second (withNexts b nexts) s

@@ -17,7 +17,7 @@ use Rattle.laws.proofs.Fields.{length-decode, encode-decode}
 use Rattle.laws.proofs.Joined.{joined-same}
 use Rattle.pricing.specs.Holding.{isEnergy}
 use Rattle.book.specs.declared.record.Book.{Book}
-use Rattle.book.specs.Record.{none, marketsOf, ringSize, isLinked, fromOf, toOf}
+use Rattle.book.specs.Record.{none, marketsOf, ringSize, isLinked}
 use Rattle.book.proofs.Validities.{Valid}
 use Rattle.head.specs.Counted.{marketCount, countAt, inOrder, counted}
 use Rattle.head.specs.Layout.{widths, kindOf, headSize, lengthOf, values, tailWidths, tail, tailOf, imageOf, isSecond, fromIn, toIn, bookOf, headFrom}
@@ -28,7 +28,7 @@ use Rattle.image.proofs.Markets.{price-size, count-of, at-below, market
 use Rattle.head.proofs.Heads.{widths-length, field-at}
 use Rattle.head.proofs.Tails.{head-within}
 use Rattle.image.proofs.Typed.{Typed}
-use Rattle.image.proofs.Books.{anewWith, anew-from, anew-to, values-book}
+use Rattle.image.proofs.Books.{anewWith, values-book}
 use Rattle.image.proofs.Verdicts.{HeadOk, LoadOk, StoreOk}
 use Rattle.image.proofs.Prices.{MarketOk, ok-prices, laid, length-laid}
 use Rattle.image.proofs.Anew.{order-anew, valid-anew}
@@ -38,12 +38,12 @@ module _ (l : List ℕ) (bytes : (i : ℕ) → getD l i 0 < 256) (h : HeadOk l) 
   small : (from w : ℕ) → from + w ≤ 148 → numberAt l from w < 256 ^ w
   small from w k = number-below l bytes from w (omega (arith, h .long, head-within (isSecond l)))
 
-  pub head-there : (s : List ℤ) → encode widths (values (length l) (kindOf (isSecond l)) (bookOf (decode widths l) s)) ≡ take 148 l
+  pub head-there : (from to : ℕ) (s : List ℤ) → encode widths (values (length l) (kindOf (isSecond l)) (bookOf (decode widths l) from to s)) ≡ take 148 l
   unfolding widths sizeOf
-  head-there s =
+  head-there from to s =
       let at = field-at l in
-      let e : values (length l) (kindOf (isSecond l)) (bookOf (decode widths l) s) ≡ decode widths l =
-      values-book (decode widths l) (length-decode widths l) (length l) (kindOf (isSecond l)) s (sym (at 0 0 4 (omega arith) refl refl ∙ h .size)) (at 1 4 2 (omega arith) refl refl ∙ h .kind)
+      let e : values (length l) (kindOf (isSecond l)) (bookOf (decode widths l) from to s) ≡ decode widths l =
+      values-book (decode widths l) (length-decode widths l) (length l) (kindOf (isSecond l)) from to s (sym (at 0 0 4 (omega arith) refl refl ∙ h .size)) (at 1 4 2 (omega arith) refl refl ∙ h .kind)
       (at 6 11 1 (omega arith) refl refl ∙ h .zero) (at 17 26 2 (omega arith) refl refl ∙ h .zeros)
       (record { fits = rw (at 18 28 8 (omega arith) refl refl) (small 28 8 (omega arith)) })
       (record { fits = rw (at 19 36 4 (omega arith) refl refl) (small 36 4 (omega arith)) })
@@ -57,7 +57,7 @@ module _ (l : List ℕ) (bytes : (i : ℕ) → getD l i 0 < 256) (h : HeadOk l) 
       let z = h .tail t in
       rw (drop-drop 1 148 l, drop-drop 1 149 l, drop-drop 2 150 l) (ap₂ (λ (x y : ℕ). number (take 1 (drop 148 l)) ∷ number (take 1 (drop 149 l)) ∷ x ∷ y ∷ []) (sym (z .0)) (sym (z .1)))
 
-  pub tail-there : (b : Book) → fromOf b ≡ fromIn l → toOf b ≡ toIn l → tailOf (isSecond l) b ++ drop (headSize (isSecond l)) l ≡ drop 148 l
+  pub tail-there : (b : Book) → b .from ≡ fromIn l → b .to ≡ toIn l → tailOf (isSecond l) b ++ drop (headSize (isSecond l)) l ≡ drop 148 l
   unfolding tail tailWidths sizeOf
   tail-there b p q = rw (p, q) (go (isSecond l) refl)
     where
@@ -137,11 +137,13 @@ module _ (l : List ℕ) (n : ℕ) (ok : LoadOk l n) where
   ring-size-from = rw (book-is, ring-is) (length-laid (headFrom l) (pricesAt first (headFrom l) l) len (count-of (headFrom l) v))
 
   -- its ends are the image's
-  pub from-is : fromOf (bookFrom l) ≡ fromIn l
-  from-is = ap fromOf book-is ∙ anew-from (headFrom l) (sumsRead l) ∙ sym (ok .head .from)
+  pub from-is : bookFrom l .from ≡ fromIn l
+  unfolding bookFrom bookOf
+  from-is = refl
 
-  pub to-is : toOf (bookFrom l) ≡ toIn l
-  to-is = ap toOf book-is ∙ anew-to (headFrom l) (sumsRead l) ∙ sym (ok .head .to)
+  pub to-is : bookFrom l .to ≡ toIn l
+  unfolding bookFrom bookOf
+  to-is = refl
 
   -- an image of kind 1 has no link to tell
   pub tells-from : kindTells (isSecond l) (bookFrom l) ≡ true
@@ -166,7 +168,7 @@ module _ (l : List ℕ) (n : ℕ) (ok : LoadOk l n) where
 
   head-from : ((i : ℕ) → getD l i 0 < 256) → encode widths (values (length l) (kindOf (isSecond l)) (bookFrom l)) ≡ take 148 l
   unfolding bookFrom
-  head-from bytes = head-there l bytes (ok .head) _
+  head-from bytes = head-there l bytes (ok .head) (fromIn l) (toIn l) _
 
   tail-from : ((i : ℕ) → getD l i 0 < 256) → tailOf (isSecond l) (bookFrom l) ++ drop first l ≡ drop 148 l
   tail-from bytes = tail-there l bytes (ok .head) (bookFrom l) from-is to-is

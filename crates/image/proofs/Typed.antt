@@ -21,7 +21,6 @@ use Rattle.laws.specs.Lists.{sumFrom}
 use Rattle.laws.proofs.Joined.{sum-most}
 use Rattle.pricing.specs.Holding.{limitsOk}
 use Rattle.book.specs.declared.record.Book.{Book}
-use Rattle.book.specs.Record.{fromOf, toOf}
 use Rattle.book.specs.Validity.{thresholdOk, endsOk}
 use Rattle.book.proofs.Validities.{Valid}
 use Rattle.head.specs.Layout.{widths, firsts, seconds, values, kindOf, lengthOf, tailWidths, tail}
@@ -99,14 +98,14 @@ module _ (b : Book) (v : Valid b) (t : Typed b) where
       omega (arith, mul-le-mul m s, head-within second)
 
   -- no region is 255 or more, so that an end fits a byte
-  end-fits : (fromOf b < 256) × (toOf b < 256)
-  end-fits = ends-fit (b .regions) (b .parents) (fromOf b) (toOf b) (omega (arith, v .regions)) (v .ends)
+  end-fits : (b .from < 256) × (b .to < 256)
+  end-fits = ends-fit (b .regions) (b .parents) (b .from) (b .to) (omega (arith, v .regions)) (v .ends)
 
   pub tail-fits : Fit tailWidths (tail b)
   unfolding tailWidths tail
   tail-fits =
-      let a : fromOf b < 256 ^ 1 = omega (arith, end-fits .0) in
-      let c : toOf b < 256 ^ 1 = omega (arith, end-fits .1) in
+      let a : b .from < 256 ^ 1 = omega (arith, end-fits .0) in
+      let c : b .to < 256 ^ 1 = omega (arith, end-fits .1) in
       let z : 0 < 256 ^ 2 = omega arith in
       let f : 4294967295 < 256 ^ 4 = omega arith in
       more a (more c (more z (more f none)))

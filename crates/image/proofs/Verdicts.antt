@@ -14,58 +14,41 @@ use Rattle.laws.proofs.Tests.{and-left, and-right, by-test, never}
 use Rattle.book.proofs.Passes.{passes, passes-not}
 use Rattle.pricing.specs.Verdict.{Verdict, accepted, refused, refusedAt}
 use Rattle.book.specs.declared.record.Book.{Book}
-use Rattle.book.specs.Record.{closed, ringSize, fromOf, toOf, linksKnown, isAccepted}
+use Rattle.book.specs.Record.{closed, ringSize, isAccepted}
 use Rattle.book.specs.Validity.{valid}
 use Rattle.book.proofs.Validities.{Valid, valid-is, is-valid}
 use Rattle.head.specs.Counted.{howMany}
-use Rattle.head.specs.Layout.{kindOf, headSize, lengthOf, isSecond, fromIn, toIn, headFrom, imageOf}
+use Rattle.head.specs.Layout.{kindOf, headSize, lengthOf, isSecond, headFrom, imageOf}
 use Rattle.head.proofs.Tails.{head-within}
 use Rattle.image.specs.Storing.{pricesOk, kindTells, storeVerdict, stored}
-use Rattle.image.specs.Loading.{lacksTail, kindOk, tailOk, zerosOk, endsSaid, fieldsOk, headVerdict, firstBad, ringOf, loadVerdict, bookFrom, ringFrom, loaded}
+use Rattle.image.specs.Loading.{lacksTail, kindOk, tailOk, zerosOk, fieldsOk, headVerdict, firstBad, ringOf, loadVerdict, bookFrom, ringFrom, loaded}
 
 -- ---- the head of an image
 pub record HeadOk (l : List ℕ) : Type 0 where
   pub long : headSize (isSecond l) ≤ length l
   pub size : numberAt l 0 4 ≡ length l
   pub kind : numberAt l 4 2 ≡ kindOf (isSecond l)
-  pub known : isSecond l ≡ true → linksKnown ≡ true
   pub zero : numberAt l 11 1 ≡ 0
   pub zeros : numberAt l 26 2 ≡ 0
   -- of kind 2
   pub tail : isSecond l ≡ true → (numberAt l 150 2 ≡ 0) × (numberAt l 152 4 ≡ 4294967295)
-  pub from : fromIn l ≡ fromOf (headFrom l)
-  pub to : toIn l ≡ toOf (headFrom l)
   pub book : Valid (headFrom l)
   pub sized : length l ≡ lengthOf (isSecond l) (headFrom l)
 
--- a kind is 1, or 2 where that is known
-kind-is : (k : ℕ) (x : Bool) → (eqb k 1 || x && eqb k 2) ≡ true → (k ≡ kindOf (eqb k 2)) × (eqb k 2 ≡ true → x ≡ true)
-kind-is k x e = (by-test (eqb k 2) (λ t. rw t (eqb-true k 2 t)) (λ t. rw t (eqb-true k 1 (no-other (eqb k 1) x (rw t at e)))), λ t. let q : k ≡ 2 = eqb-true k 2 t in only x (rw q at e))
+-- a kind is 1 or 2
+kind-is : (k : ℕ) → (eqb k 1 || eqb k 2) ≡ true → k ≡ kindOf (eqb k 2)
+kind-is k e = by-test (eqb k 2) (λ t. rw t (eqb-true k 2 t)) (λ t. rw t (eqb-true k 1 (no-other (eqb k 1) (rw t at e))))
   where
-    no-other : (a y : Bool) → (a || y && false) ≡ true → a ≡ true
-    no-other true y q = refl
-    no-other false true q = q
-    no-other false false q = q
+    no-other : (a : Bool) → (a || false) ≡ true → a ≡ true
+    no-other true q = refl
+    no-other false q = q
 
-    only : (y : Bool) → (eqb 2 1 || y && eqb 2 2) ≡ true → y ≡ true
-    only true q = refl
-    only false q = q
-
-is-kind : (k : ℕ) (x : Bool) → k ≡ kindOf (eqb k 2) → (eqb k 2 ≡ true → x ≡ true) → (eqb k 1 || x && eqb k 2) ≡ true
-is-kind k x e h = by-test (eqb k 2) (λ t. rw (t, h t) (or-true (eqb k 1))) (λ t. let q : k ≡ 1 = rw t at e in rw (t, eq-eqb k 1 q))
+is-kind : (k : ℕ) → k ≡ kindOf (eqb k 2) → (eqb k 1 || eqb k 2) ≡ true
+is-kind k e = by-test (eqb k 2) (λ t. rw t (or-true (eqb k 1))) (λ t. let q : k ≡ 1 = rw t at e in rw (t, eq-eqb k 1 q))
   where
     or-true : (a : Bool) → (a || true) ≡ true
     or-true true = refl
     or-true false = refl
-
--- of kind 2 there is room for the tail
-long-is : (n : ℕ) (s x : Bool) → 148 ≤ n → (x && ltb n (headSize s)) ≡ false → (s ≡ true → x ≡ true) → headSize s ≤ n
-long-is n true x h e k = let t : x ≡ true = k refl in ltb-false n 156 (rw t at e)
-long-is n false x h e k = h
-
-is-long : (n : ℕ) (s x : Bool) → headSize s ≤ n → (x && ltb n (headSize s)) ≡ false
-is-long n s true h = le-ltb n (headSize s) h
-is-long n s false h = refl
 
 is-tail : (l : List ℕ) → (isSecond l ≡ true → (numberAt l 150 2 ≡ 0) × (numberAt l 152 4 ≡ 4294967295)) → tailOk l ≡ true
 is-tail l h = by-test (isSecond l) (λ t. rw (t, eq-eqb _ _ (h t .0), eq-eqb _ _ (h t .1))) (λ t. rw t)
@@ -87,8 +70,8 @@ module _ (l : List ℕ) where
   head-tests = refl
 
   -- before the kind's tail is looked at
-  pub second-long : 148 ≤ length l → lacksTail l ≡ false → kindOk l ≡ true → isSecond l ≡ true → 156 ≤ length l
-  second-long h e k t = let m : headSize (isSecond l) ≤ length l = long-is (length l) (isSecond l) linksKnown h e (kind-is (numberAt l 4 2) linksKnown k .1) in rw t at m
+  pub second-long : lacksTail l ≡ false → isSecond l ≡ true → 156 ≤ length l
+  second-long e t = let m : headSize (isSecond l) ≤ length l = ltb-false (length l) (headSize (isSecond l)) e in rw t at m
 
   pub head-ok : isAccepted (headVerdict l) ≡ true → HeadOk l
   head-ok e =
@@ -98,23 +81,17 @@ module _ (l : List ℕ) where
       let c = passes-not (kindOk l) (refused 25) _ refl (s .1) in
       let d = passes-not (fieldsOk l) (refused 26) _ refl (c .1) in
       let f = passes-not (eqb (length l) (lengthOf (isSecond l) (headFrom l))) (refused 27) _ refl (d .1) in
-      let k = kind-is (numberAt l 4 2) linksKnown (c .0) in
-      let w = and-left (zerosOk l && endsSaid l) (valid (headFrom l)) (d .0) in
-      let z = and-left (zerosOk l) (endsSaid l) w in
-      let u = and-right (zerosOk l) (endsSaid l) w in
+      let z = and-left (zerosOk l) (valid (headFrom l)) (d .0) in
       let y = and-left (eqb (numberAt l 11 1) 0 && eqb (numberAt l 26 2) 0) (tailOk l) z in
       record {
-        long = long-is (length l) (isSecond l) linksKnown (ltb-false (length l) 148 (a .0)) (s .0) (k .1);
+        long = ltb-false (length l) (headSize (isSecond l)) (s .0);
         size = eqb-true (numberAt l 0 4) (length l) (b .0);
-        kind = k .0;
-        known = k .1;
+        kind = kind-is (numberAt l 4 2) (c .0);
         zero = eqb-true (numberAt l 11 1) 0 (and-left (eqb (numberAt l 11 1) 0) (eqb (numberAt l 26 2) 0) y);
         zeros = eqb-true (numberAt l 26 2) 0 (and-right (eqb (numberAt l 11 1) 0) (eqb (numberAt l 26 2) 0) y);
         tail = λ t. let q = rw t at (and-right (eqb (numberAt l 11 1) 0 && eqb (numberAt l 26 2) 0) (tailOk l) z) in
             (eqb-true _ _ (and-left (eqb (numberAt l 150 2) 0) (eqb (numberAt l 152 4) 4294967295) q), eqb-true _ _ (and-right (eqb (numberAt l 150 2) 0) (eqb (numberAt l 152 4) 4294967295) q));
-        from = eqb-true (fromIn l) (fromOf (headFrom l)) (and-left (eqb (fromIn l) (fromOf (headFrom l))) (eqb (toIn l) (toOf (headFrom l))) u);
-        to = eqb-true (toIn l) (toOf (headFrom l)) (and-right (eqb (fromIn l) (fromOf (headFrom l))) (eqb (toIn l) (toOf (headFrom l))) u);
-        book = valid-is (headFrom l) (and-right (zerosOk l && endsSaid l) (valid (headFrom l)) (d .0));
+        book = valid-is (headFrom l) (and-right (zerosOk l) (valid (headFrom l)) (d .0));
         sized = eqb-true (length l) (lengthOf (isSecond l) (headFrom l)) (f .0);
       }
 
@@ -124,8 +101,6 @@ module _ (l : List ℕ) where
         eq-eqb (numberAt l 11 1) 0 (h .zero),
         eq-eqb (numberAt l 26 2) 0 (h .zeros),
         is-tail l (h .tail),
-        eq-eqb (fromIn l) (fromOf (headFrom l)) (h .from),
-        eq-eqb (toIn l) (toOf (headFrom l)) (h .to),
         is-valid (headFrom l) (h .book),
       )
 
@@ -135,8 +110,8 @@ module _ (l : List ℕ) where
       ∙ rw (
         le-ltb (length l) 148 (omega (arith, h .long, head-within (isSecond l))),
         eq-eqb (numberAt l 0 4) (length l) (h .size),
-        is-long (length l) (isSecond l) linksKnown (h .long),
-        is-kind (numberAt l 4 2) linksKnown (h .kind) (h .known),
+        le-ltb (length l) (headSize (isSecond l)) (h .long),
+        is-kind (numberAt l 4 2) (h .kind),
         fields-are h,
         eq-eqb (length l) (lengthOf (isSecond l) (headFrom l)) (h .sized),
       ) refl

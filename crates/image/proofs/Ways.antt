@@ -97,6 +97,10 @@ head-ready l a b e at p =
     let h = head-ok l (ap isAccepted a) in
     (ap valid e ∙ is-valid (headFrom l) (h .book), omega (arith, h .sized, ap howMany e))
 
+-- and of kind 2 the tail too
+pub head-tailed : (l : List ℕ) → headVerdict l ≡ accepted → (148 ≤ length l) × (isSecond l ≡ true → 156 ≤ length l)
+head-tailed l a = (head-long l a, λ t. let m = head-ok l (ap isAccepted a) .long in rw t at m)
+
 -- ---- the image check
 module _ (l : List ℕ) where
   pub check-head : isAccepted (headVerdict l) ≡ false → headVerdict l .number ≡ checked l
@@ -130,6 +134,8 @@ module _ (l : List ℕ) (g : List ℤ) (a : Answer) (h : verdict a ≡ loadVerdi
           window = b .window;
           halves = b .halves;
           parents = b .parents;
+          from = b .from;
+          to = b .to;
           threshold = b .threshold;
           cap = b .cap;
           floor = b .floor;

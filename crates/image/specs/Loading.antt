@@ -12,19 +12,19 @@ use Rattle.laws.specs.Bytes.{numberAt, decode, priceAt}
 use Rattle.pricing.specs.Verdict.{Verdict, accepted, refused, refusedAt}
 use Rattle.pricing.specs.Holding.{isEnergy, inRange}
 use Rattle.book.specs.declared.record.Book.{Book}
-use Rattle.book.specs.Record.{closed, fromOf, toOf, linksKnown, marketsOf, placeOf, ringSize, verdict, isAccepted}
+use Rattle.book.specs.Record.{closed, marketsOf, placeOf, ringSize, verdict, isAccepted}
 use Rattle.book.specs.Validity.{valid}
 use Rattle.image.specs.declared.loading.Loaded.{Loaded}
 use Rattle.head.specs.Counted.{marketCount, countAt, howMany}
 use Rattle.head.specs.Layout.{widths, headSize, lengthOf, bookOf, isSecond, fromIn, toIn, headFrom}
 
--- "24 kind 2 under 156 bytes", where kind 2 is known
+-- "24 kind 2 under 156 bytes"
 abbrev pub lacksTail : List ℕ → Bool
-lacksTail bytes = linksKnown && ltb (length bytes) (headSize (isSecond bytes))
+lacksTail bytes = ltb (length bytes) (headSize (isSecond bytes))
 
--- 25: the kind is 1 or, where it is known, 2
+-- 25: the kind is 1 or 2
 abbrev pub kindOk : List ℕ → Bool
-kindOk bytes = eqb (numberAt bytes 4 2) 1 || linksKnown && isSecond bytes
+kindOk bytes = eqb (numberAt bytes 4 2) 1 || isSecond bytes
 
 -- of kind 2 "two zeros, at 152 four bytes of 255"
 abbrev pub tailOk : List ℕ → Bool
@@ -34,14 +34,9 @@ tailOk bytes = not (isSecond bytes) || eqb (numberAt bytes 150 2) 0 && eqb (numb
 abbrev pub zerosOk : List ℕ → Bool
 zerosOk bytes = eqb (numberAt bytes 11 1) 0 && eqb (numberAt bytes 26 2) 0 && tailOk bytes
 
--- the ends that the image says are those of the book that its head says. The book has no fields for them yet, so that this asks for
--- 255 and 255; it goes once the book is read with the image's ends. It holds of every image of kind 1
-abbrev pub endsSaid : List ℕ → Bool
-endsSaid bytes = eqb (fromIn bytes) (fromOf (headFrom bytes)) && eqb (toIn bytes) (toOf (headFrom bytes))
-
 -- 26: the fields and the zero bytes
 abbrev pub fieldsOk : List ℕ → Bool
-fieldsOk bytes = zerosOk bytes && endsSaid bytes && valid (headFrom bytes)
+fieldsOk bytes = zerosOk bytes && valid (headFrom bytes)
 
 -- "Load: 24 under 148 bytes or length field not the lent length; 25 kind; 26 a field in bytes 6 to 147 outside what Open or
 -- 10 allows, or a zero byte, unused count or unused period not zero; 27 length formula". What 10 allows is rule 10 itself, of
@@ -104,7 +99,7 @@ module _ (b : Book) (bytes : List ℕ) where
 
 unfoldable pub bookFrom : List ℕ → Book
 bookFrom bytes =
-    bookOf (decode widths bytes)
+    bookOf (decode widths bytes) (fromIn bytes) (toIn bytes)
     (sumsFrom (headFrom bytes) bytes (marketCount (headFrom bytes)) 0 (headSize (isSecond bytes)) (replicate 88 (pos 0)))
 
 unfoldable pub ringFrom : List ℕ → List ℤ

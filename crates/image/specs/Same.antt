@@ -6,7 +6,7 @@ use Prim.Native.Nat.{ℕ, _<_}
 use lib.IntN.{ℤ}
 use lib.ListN.{length}
 use Rattle.book.specs.declared.record.Book.{Book}
-use Rattle.book.specs.Record.{ringSize, fromOf, toOf}
+use Rattle.book.specs.Record.{ringSize}
 use Rattle.book.specs.Validity.{valid}
 use Rattle.head.specs.Counted.{marketCount, inOrder}
 
@@ -20,8 +20,8 @@ pub record Same (b : Book) (ring : List ℤ) (b′ : Book) (ring′ : List ℤ) 
   pub window : b .window ≡ b′ .window
   pub halves : b .halves ≡ b′ .halves
   pub parents : b .parents ≡ b′ .parents
-  pub from : fromOf b ≡ fromOf b′
-  pub to : toOf b ≡ toOf b′
+  pub from : b .from ≡ b′ .from
+  pub to : b .to ≡ b′ .to
   pub threshold : b .threshold ≡ b′ .threshold
   pub cap : b .cap ≡ b′ .cap
   pub floor : b .floor ≡ b′ .floor

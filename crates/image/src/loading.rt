@@ -12,7 +12,6 @@ use codec::get_u32;
 use codec::get_word;
 use codec::get_words;
 use head::counted::how_many;
-use head::layout::end_in;
 use head::layout::head_from;
 use head::layout::image_length;
 use head::layout::is_second;
@@ -31,7 +30,7 @@ ghost use Rattle.book.specs.Record.{verdict};
 ghost use Rattle.book.specs.Validity.{valid};
 ghost use Rattle.head.specs.Counted.{marketCount, howMany};
 ghost use Rattle.head.specs.Layout.{isSecond, headFrom};
-ghost use Rattle.image.specs.Loading.{lacksTail, kindOk, tailOk, endsSaid, fieldsOk, headVerdict, badFrom};
+ghost use Rattle.image.specs.Loading.{lacksTail, kindOk, tailOk, fieldsOk, headVerdict, badFrom};
 ghost use Rattle.image.specs.Loading.{ringOf, loadVerdict, checked, loadedWindow, windowsFrom, sumsFrom, outcome, loaded};
 
 pub struct Loaded {
@@ -169,23 +168,20 @@ fn first_bad(bytes: &[u8], book: Book, from: usize) -> usize
     k
 }
 
-// Kind 2 is prepared and not known yet: no book has the link that it is for.
-const LINKS_KNOWN: bool = false;
-
 // Whether an image of kind 2 ends before its prices.
 fn lacks_tail(bytes: &[u8]) -> bool
     requires { ⌜ 148 ≤ length (now bytes) ⌝ }
     ensures { λ x. ⌜ x ≡ lacksTail (now (bytes .entry)) ⌝ }
 {
-    LINKS_KNOWN & (bytes.len() < prices_from(bytes))
+    bytes.len() < prices_from(bytes)
 }
 
-// Whether the kind is one that is known.
+// Whether the kind is 1 or 2.
 fn kind_ok(bytes: &[u8]) -> bool
     requires { ⌜ 148 ≤ length (now bytes) ⌝ }
     ensures { λ x. ⌜ x ≡ kindOk (now (bytes .entry)) ⌝ }
 {
-    (get_u16(bytes, 4) == 1) | (LINKS_KNOWN & is_second(bytes))
+    (get_u16(bytes, 4) == 1) | is_second(bytes)
 }
 
 // Whether the tail of kind 2 has its zeros and its kept bytes.
@@ -199,14 +195,6 @@ fn tail_ok(bytes: &[u8]) -> bool
     true
 }
 
-// Whether the image's ends are those of the book that its head says. No book has ends yet.
-fn ends_said(bytes: &[u8]) -> bool
-    requires { ⌜ (148 ≤ length (now bytes)) × (isSecond (now bytes) ≡ true → 156 ≤ length (now bytes)) ⌝ }
-    ensures { λ x. ⌜ x ≡ endsSaid (now (bytes .entry)) ⌝ }
-{
-    (end_in(bytes, 148) == 255) & (end_in(bytes, 149) == 255)
-}
-
 // 26, of an image whose head says `book`.
 fn fields_ok(bytes: &[u8], book: Book) -> bool
     requires { ⌜ (148 ≤ length (now bytes)) × (isSecond (now bytes) ≡ true → 156 ≤ length (now bytes)) ⌝ }
@@ -214,7 +202,7 @@ fn fields_ok(bytes: &[u8], book: Book) -> bool
     ensures { λ x. ⌜ x ≡ fieldsOk (now (bytes .entry)) ⌝ }
 {
     let zeros = (get_u8(bytes, 11) == 0) & (get_u16(bytes, 26) == 0);
-    zeros & tail_ok(bytes) & ends_said(bytes) & valid(book)
+    zeros & tail_ok(bytes) & valid(book)
 }
 
 // 24 to 27 in order.

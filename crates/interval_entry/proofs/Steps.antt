@@ -12,7 +12,6 @@ use Rattle.book.specs.declared.record.Book.{Book}
 use Rattle.book.specs.Record.{marketsOf, hasLink, isAccepted}
 use Rattle.book.specs.Validity.{valid}
 use Rattle.book.proofs.Passes.{passes-not}
-use Rattle.book.proofs.Ways.{link-known}
 use Rattle.entries.specs.Entering as Entering
 use Rattle.entries.specs.Working.{acceptance}
 use Rattle.entries.proofs.Unmoved.{entered-is}
@@ -38,7 +37,7 @@ module _ (b : Book) (records : List ℕ) (at : ℕ) (lent : Interval) (e : isAcc
   read-room =
       let v = passes-not (valid b) _ _ refl read-accepted in
       let l = passes-not (slicesOk b lent) _ _ refl (v .1) in
-      all-room (hasLink b) (link-known b) (b .regions) (marketsOf (b .services)) records at (l .1)
+      all-room (hasLink b) (b .regions) (marketsOf (b .services)) records at (l .1)
 
 -- ---- an interval that was accepted
 pub record Taken (b : Book) (records : List ℕ) (at : ℕ) (o : Outcome) : Type 0 where

@@ -10,7 +10,7 @@ use lib.Dec.{eqb}
 use lib.ListN.{length}
 use Rattle.laws.proofs.Tests.{by-test, never}
 use Rattle.pricing.specs.Verdict.{accepted}
-use Rattle.book.specs.Record.{isAccepted, linksKnown}
+use Rattle.book.specs.Record.{isAccepted}
 use Rattle.interval_records.specs.Layout.{headLength, regionLength, linkLength, intervalLength}
 use Rattle.interval_records.specs.Record.{dueVerdict, headVerdict, recordPlace, regionAt}
 use Rattle.interval_records.specs.InOrder.{nextVerdict, regionsVerdict, orderedVerdict}
@@ -34,8 +34,8 @@ pub regions-are : (R M : ℕ) (bytes : List ℕ) (first : ℕ) → isAccepted (r
     → (k : ℕ) → k < R → Due 17 M bytes (recordPlace M first k) × (regionAt M bytes first k ≡ k)
 regions-are R M bytes first e k l = next-is M bytes first k (accepted-all R 0 (nextVerdict M bytes first) e k (omega arith) (omega arith))
 
--- all of them: where there is the additional link, it is known
-module _ (linked : Bool) (known : linked ≡ true → linksKnown ≡ true) (R M : ℕ) (bytes : List ℕ) (at : ℕ) where
+-- all of them
+module _ (linked : Bool) (R M : ℕ) (bytes : List ℕ) (at : ℕ) where
   pub ordered-is : isAccepted (orderedVerdict linked R M bytes at) ≡ true → Ordered linked R M bytes at
   unfolding orderedVerdict
   ordered-is e =
@@ -43,7 +43,7 @@ module _ (linked : Bool) (known : linked ≡ true → linksKnown ≡ true) (R M 
       (λ a. by-test (isAccepted (regionsVerdict R M bytes (at + headLength)))
       (λ b. let h = head-is R M bytes at a in
       let r = regions-are R M bytes (at + headLength) b in
-      let t = link-is linked known M bytes (recordPlace M (at + headLength) R) (rw (a, b) at e) in
+      let t = link-is linked M bytes (recordPlace M (at + headLength) R) (rw (a, b) at e) in
       record { head = h .0; total = h .1; due = λ k l. r k l .0; region = λ k l. r k l .1; link = t })
       (λ b. never (isAccepted (regionsVerdict R M bytes (at + headLength))) (rw (a, b) at e) b))
       (λ a. never (isAccepted (headVerdict R M bytes at)) (rw a at e) a)
@@ -52,7 +52,7 @@ module _ (linked : Bool) (known : linked ≡ true → linksKnown ≡ true) (R M 
   unfolding orderedVerdict
   is-ordered o =
       let r = all-accepted R 0 (nextVerdict M bytes (at + headLength)) (λ k a l. is-next M bytes (at + headLength) k (o .due k (omega arith)) (o .region k (omega arith))) in
-      rw (is-head R M bytes at (o .head) (o .total), r) (is-link linked known M bytes (recordPlace M (at + headLength) R) (o .link))
+      rw (is-head R M bytes at (o .head) (o .total), r) (is-link linked M bytes (recordPlace M (at + headLength) R) (o .link))
 
 -- ---- the room of records that stand one behind the other, in whatever order their regions are
 module _ (R M : ℕ) (bytes : List ℕ) (first : ℕ) (start : first ≤ length bytes) (due : (k : ℕ) → k < R → Due 17 M bytes (recordPlace M first k)) where

@@ -11,7 +11,7 @@ use lib.Dec.{eqb, leb}
 use lib.ListN.{length}
 use Rattle.laws.specs.Bytes.{numberAt}
 use Rattle.pricing.specs.Verdict.{Verdict, accepted, refused}
-use Rattle.book.specs.Record.{isAccepted, linksKnown}
+use Rattle.book.specs.Record.{isAccepted}
 use Rattle.interval_records.specs.Layout.{headLength, regionLength, linkLength}
 use Rattle.interval_records.specs.Record.{lengthAt, kindAt, knownLength, whole, dueVerdict, linkVerdict, headVerdict, recordPlace, regionAt, firstRefusal}
 use Rattle.interval_records.specs.InOrder.{nextVerdict, regionsVerdict, orderedVerdict}
@@ -25,12 +25,12 @@ module _ (markets kind : ℕ) where
     pub known-region : kind ≡ 17 → regionLength markets ≡ knownLength markets kind
     known-region e = rw (ne-eqb kind 16 n, eq-eqb kind 17 e) refl
 
-    module _ (m : kind ≡ 17 → ⊥) (known : Bool) (k : known ≡ linksKnown) where
-      pub known-link : (known && eqb kind 18) ≡ true → linkLength ≡ knownLength markets kind
-      known-link e = rw (ne-eqb kind 16 n, ne-eqb kind 17 m, ← k, e) refl
+    module _ (m : kind ≡ 17 → ⊥) where
+      pub known-link : kind ≡ 18 → linkLength ≡ knownLength markets kind
+      known-link e = rw (ne-eqb kind 16 n, ne-eqb kind 17 m, eq-eqb kind 18 e) refl
 
-      pub known-none : (known && eqb kind 18) ≡ false → 0 ≡ knownLength markets kind
-      known-none e = rw (ne-eqb kind 16 n, ne-eqb kind 17 m, ← k, e) refl
+      pub known-none : (kind ≡ 18 → ⊥) → 0 ≡ knownLength markets kind
+      known-none e = rw (ne-eqb kind 16 n, ne-eqb kind 17 m, ne-eqb kind 18 e) refl
 
 -- ---- one record: 40, then 41
 module _ (markets : ℕ) (bytes : List ℕ) (p : ℕ) where

@@ -12,7 +12,7 @@ use Rattle.laws.specs.Base.{pick}
 use Rattle.laws.specs.Bytes.{numberAt}
 use Rattle.laws.proofs.Tests.{by-test, never, and-left, and-right, lt-or-ge, true-is}
 use Rattle.pricing.specs.Verdict.{Verdict, accepted, refused}
-use Rattle.book.specs.Record.{isAccepted, linksKnown}
+use Rattle.book.specs.Record.{isAccepted}
 use Rattle.interval_records.specs.Layout.{linkLength}
 use Rattle.interval_records.specs.Record.{lengthAt, kindAt, knownLength, whole, dueVerdict, linkVerdict, firstRefusal}
 
@@ -64,20 +64,20 @@ module _ (kind markets : ℕ) (known : 6 ≤ knownLength markets kind) (bytes : 
           let y : lengthAt bytes p ≡ knownLength markets kind = eqb-true _ _ (rw (k, z) at (g .2)) in
           record { room = omega (arith, g .0, g .1); size = y; kind = q }
 
--- ---- the additional link's record, where it is known
+-- ---- the additional link's record
 pub record LinkDue (bytes : List ℕ) (p : ℕ) : Type 0 where
   pub room : p + linkLength ≤ length bytes
   pub size : numberAt bytes p 4 ≡ linkLength
   pub kind : numberAt bytes (p + 4) 2 ≡ 18
 
-link-length : (markets : ℕ) → linksKnown ≡ true → knownLength markets 18 ≡ linkLength
-link-length markets k = rw k refl
+link-length : (markets : ℕ) → knownLength markets 18 ≡ linkLength
+link-length markets = refl
 
-module _ (linked : Bool) (known : linked ≡ true → linksKnown ≡ true) (markets : ℕ) (bytes : List ℕ) (p : ℕ) where
+module _ (linked : Bool) (markets : ℕ) (bytes : List ℕ) (p : ℕ) where
   pub link-is : isAccepted (linkVerdict linked markets bytes p) ≡ true → linked ≡ true → LinkDue bytes p
   unfolding linkVerdict
   link-is e l =
-      let n = link-length markets (known l) in
+      let n = link-length markets in
       let d = accepted-due 18 markets (omega (arith, n)) bytes p (rw l at e) in
       record { room = omega (arith, n, d .room); size = d .size ∙ n; kind = d .kind }
 
@@ -85,7 +85,7 @@ module _ (linked : Bool) (known : linked ≡ true → linksKnown ≡ true) (mark
   unfolding linkVerdict
   is-link d =
       by-test linked
-      (λ l. rw l (from (link-length markets (known l)) (d l)))
+      (λ l. rw l (from (link-length markets) (d l)))
       (λ l. rw l refl)
     where
       from : knownLength markets 18 ≡ linkLength → LinkDue bytes p → dueVerdict 18 markets bytes p ≡ accepted

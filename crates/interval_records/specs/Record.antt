@@ -7,7 +7,7 @@ use lib.ListN.{length}
 use Rattle.laws.specs.Base.{pick}
 use Rattle.laws.specs.Bytes.{numberAt}
 use Rattle.pricing.specs.Verdict.{Verdict, accepted, refused}
-use Rattle.book.specs.Record.{isAccepted, linksKnown}
+use Rattle.book.specs.Record.{isAccepted}
 use Rattle.interval_records.specs.Layout.{headLength, regionLength, linkLength}
 
 -- ---- what a record says first
@@ -17,12 +17,12 @@ lengthAt bytes p = numberAt bytes p 4
 abbrev pub kindAt : List ℕ → ℕ → ℕ
 kindAt bytes p = numberAt bytes (p + 4) 2
 
--- the length of a record of a known kind, 0 for an unknown one; kind 18 is of 2026-10
+-- the length of a record of a known kind, 0 for an unknown one
 abbrev pub knownLength : ℕ → ℕ → ℕ
 knownLength markets kind =
     pick (eqb kind 16) headLength
     (pick (eqb kind 17) (regionLength markets)
-    (pick (linksKnown && eqb kind 18) linkLength 0))
+    (pick (eqb kind 18) linkLength 0))
 
 -- passes 40: "a record missing or cut short, a length below 6 or, for a known kind, another than it has"
 unfoldable pub whole : ℕ → List ℕ → ℕ → Bool

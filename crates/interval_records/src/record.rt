@@ -6,15 +6,8 @@ use codec::get_u8;
 use codec::get_u16;
 use codec::get_u32;
 ghost use mathlib.Core.Path.{_≡_};
-ghost use Rattle.book.specs.Record.{marketsOf, linksKnown, verdict};
+ghost use Rattle.book.specs.Record.{marketsOf, verdict};
 ghost use Rattle.interval_records.specs.Record.{knownLength, whole, dueVerdict, linkVerdict, headVerdict};
-
-// Whether the additional link's record is known. It is prepared: no book has the link yet, and a kind 18 is unknown.
-fn links_known() -> bool
-    ensures { λ x. ⌜ x ≡ linksKnown ⌝ }
-{
-    false
-}
 
 // The length of a record of a known kind, or 0.
 fn known_length(services: u8, kind: u16) -> usize
@@ -26,7 +19,7 @@ fn known_length(services: u8, kind: u16) -> usize
     if kind == 17 {
         return region_length(services);
     }
-    if links_known() & (kind == 18) { 14 } else { 0 }
+    if kind == 18 { 14 } else { 0 }
 }
 
 // Whether a record stands whole at a place, with its kind's length where the kind is known. Any place: lengths are compared by subtraction.

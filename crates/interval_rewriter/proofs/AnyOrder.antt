@@ -12,7 +12,7 @@ use Rattle.laws.specs.Bytes.{numberAt}
 use Rattle.laws.proofs.Tests.{by-test, never, true-is}
 use Rattle.laws.proofs.Lists.{any-at, firstOf-found}
 use Rattle.pricing.specs.Verdict.{accepted}
-use Rattle.book.specs.Record.{isAccepted, linksKnown}
+use Rattle.book.specs.Record.{isAccepted}
 use Rattle.interval_records.specs.Layout.{headLength}
 use Rattle.interval_records.specs.Record.{dueVerdict, headVerdict, recordPlace, regionAt}
 use Rattle.interval_rewriter.specs.AnyOrder.{stray, regionVerdict, regionsVerdict, recordsVerdict, recordOf}
@@ -87,7 +87,7 @@ pub record Given (linked : Bool) (R M : ℕ) (bytes : List ℕ) (at : ℕ) : Typ
   pub named : Named R M bytes (at + headLength)
   pub link : linked ≡ true → LinkDue bytes (recordPlace M (at + headLength) R)
 
-module _ (linked : Bool) (known : linked ≡ true → linksKnown ≡ true) (R M : ℕ) (bytes : List ℕ) (at : ℕ) where
+module _ (linked : Bool) (R M : ℕ) (bytes : List ℕ) (at : ℕ) where
   abbrev place : ℕ
   place = recordPlace M (at + headLength) R
 
@@ -105,7 +105,7 @@ module _ (linked : Bool) (known : linked ≡ true → linksKnown ≡ true) (R M 
       by-test (isAccepted (headVerdict R M bytes at))
       (λ a. by-test (isAccepted (regionsVerdict R M bytes (at + headLength)))
       (λ b. let h = head-is R M bytes at a in
-      record { head = h .0; total = h .1; named = named-is R M bytes (at + headLength) b; link = link-is linked known M bytes place (rw (a, b) at e) })
+      record { head = h .0; total = h .1; named = named-is R M bytes (at + headLength) b; link = link-is linked M bytes place (rw (a, b) at e) })
       (λ b. never (isAccepted (regionsVerdict R M bytes (at + headLength))) (rw (a, b) at e) b))
       (λ a. never (isAccepted (headVerdict R M bytes at)) (rw a at e) a)
 
@@ -113,7 +113,7 @@ module _ (linked : Bool) (known : linked ≡ true → linksKnown ≡ true) (R M 
   unfolding recordsVerdict
   is-given g =
       rw (is-head R M bytes at (g .head) (g .total), is-named R M bytes (at + headLength) (g .named))
-      (is-link linked known M bytes place (g .link))
+      (is-link linked M bytes place (g .link))
 
 -- records in number order are records in some order, and region r's is record r
 module _ (linked : Bool) (R M : ℕ) (bytes : List ℕ) (at : ℕ) (o : Ordered linked R M bytes at) where

@@ -26,7 +26,6 @@ use Rattle.pricing.specs.Verdict.{accepted}
 use Rattle.book.specs.declared.record.Book.{Book}
 use Rattle.book.specs.Record.{marketsOf, hasLink, isAccepted}
 use Rattle.book.specs.Validity.{valid}
-use Rattle.book.proofs.Ways.{link-known}
 use Rattle.interval_records.specs.Layout.{Interval, headLength, regionLength, linkLength, intervalLength, lengthFor, intervalBytes}
 use Rattle.interval_records.specs.Record.{recordPlace}
 use Rattle.interval_records.proofs.Heads.{Ordered}
@@ -135,7 +134,7 @@ rewrite-same b bytes t at buffer e lent l =
     let M = marketsOf (b .services) in
     let w = rewrites b bytes at buffer e in
     let y = hasLink b in
-    let g = given-is y (link-known b) R M bytes at (w .given) in
+    let g = given-is y R M bytes at (w .given) in
     let k = few b (w .book) in
     let v = intervalAt y R M bytes at (recordOf R M bytes (at + headLength)) in
     let f = taken-fits y R M bytes t at g (omega arith) in
@@ -161,7 +160,7 @@ rewrite-one-form b bytes bytes′ t t′ at at′ buffer buffer′ e e′ lent l
         let y = hasLink b in
         let v = intervalAt y R M bytes at (recordOf R M bytes (at + headLength)) in
         let n : lengthFor b ≡ length (intervalBytes y R M v) = sym (bytes-length y R M v) in
-        rw (rewritten b bytes at buffer w, reordered-is y R M bytes t at (given-is y (link-known b) R M bytes at (w .given)), earlier-is b bytes at (length buffer) lent w l)
+        rw (rewritten b bytes at buffer w, reordered-is y R M bytes t at (given-is y R M bytes at (w .given)), earlier-is b bytes at (length buffer) lent w l)
         (ap (λ (i : ℕ). take i (intervalBytes y R M v ++ drop (lengthFor b) buffer)) n ∙ take-append-seam (intervalBytes y R M v) (drop (lengthFor b) buffer))
 
 -- ---- an interval in number order
@@ -179,7 +178,7 @@ ordered-rewrites : (b : Book) (bytes : List ℕ) (at room : ℕ) (lent : Interva
 ordered-rewrites b bytes at room lent r h =
     let R = b .regions in
     let M = marketsOf (b .services) in
-    record { book = r .book; long = h; given = rw (is-given (hasLink b) (link-known b) R M bytes at (ordered-given (hasLink b) R M bytes at (r .order))) refl }
+    record { book = r .book; long = h; given = rw (is-given (hasLink b) R M bytes at (ordered-given (hasLink b) R M bytes at (r .order))) refl }
 
 -- what reads already is rewritten to itself
 pub rewrite-ordered : (b : Book) (bytes : List ℕ) (at : ℕ) (lent : Interval) → isAccepted (readInterval b bytes at lent .verdict) ≡ true
@@ -209,4 +208,4 @@ read-earlier b bytes at lent e =
     let M = marketsOf (b .services) in
     let r = reads b bytes at lent e in
     earlier-is b bytes at (lengthFor b) lent (ordered-rewrites b bytes at (lengthFor b) lent r (omega arith)) (r .slices)
-    ∙ rw (same-interval (hasLink b) R M (omega arith) bytes at (recordOf R M bytes (at + headLength)) (record-same (hasLink b) R M bytes at (r .order)), r .book, r .slices, is-ordered (hasLink b) (link-known b) R M bytes at (r .order)) refl
+    ∙ rw (same-interval (hasLink b) R M (omega arith) bytes at (recordOf R M bytes (at + headLength)) (record-same (hasLink b) R M bytes at (r .order)), r .book, r .slices, is-ordered (hasLink b) R M bytes at (r .order)) refl

@@ -23,7 +23,7 @@ use Rattle.book.specs.declared.record.Answer.{Answer}
 use Rattle.book.specs.declared.record.Answer.the-variants.{Accepted, Refused}
 use Rattle.book.specs.Record.{marketsOf, hasLink, verdict, isAccepted}
 use Rattle.book.specs.Validity.{valid}
-use Rattle.book.proofs.Ways.{refusal-is, link-known}
+use Rattle.book.proofs.Ways.{refusal-is}
 use Rattle.interval_records.specs.Layout.{headLength, regionLength, linkLength, intervalLength, lengthFor}
 use Rattle.interval_records.specs.Record.{recordPlace}
 use Rattle.interval_records.proofs.InOrder.{dues-room, whole-room}
@@ -133,7 +133,7 @@ module _ (b : Book) (bytes : List ℕ) (at : ℕ) (buffer : List ℕ) (a : Answe
     linked = hasLink b
 
     pub asks-given : Given linked R M bytes at
-    asks-given = given-is linked (link-known b) R M bytes at (rewrite-asks .given)
+    asks-given = given-is linked R M bytes at (rewrite-asks .given)
 
     -- the head, then the records behind it, then the additional link's
     all-puts : (head others all : List ℕ) → head ≡ sets buffer 0 (take headLength (drop at bytes))

@@ -9,7 +9,6 @@ use Rattle.laws.specs.Lists.{run, joined, allBelow}
 use Rattle.laws.specs.Bytes.{le, number, numberAt, encode, words}
 use Rattle.pricing.specs.Verdict.{accepted, refused}
 use Rattle.book.specs.declared.record.Book.{Book}
-use Rattle.book.specs.Record.{fromOf, toOf}
 use Rattle.book.specs.Validity.{valid}
 use Rattle.interval_records.specs.Layout.{Interval, intervalOf, headWidths, regionWidths, headRecord, regionRecord, intervalBytes}
 use Rattle.interval_records.specs.Record.{whole, dueVerdict, linkVerdict, headVerdict, firstRefusal}
@@ -25,6 +24,8 @@ two = record {
   window = 1;
   halves = 1;
   parents = 255 ∷ 0 ∷ replicate 6 255;
+  from = 255;
+  to = 255;
   threshold = pos 90000;
   cap = pos 60000;
   floor = negsuc 59999;
@@ -68,31 +69,31 @@ abbrev refusal : ℕ → Reading.Outcome
 refusal n = record { verdict = refused n; next = 0; book = two; interval = lent }
 
 reads-upward : reads upward ≡ record { verdict = accepted; next = 52; book = two; interval = said }
-unfolding readInterval readVerdict valid fromOf toOf allBelow orderedVerdict headVerdict dueVerdict linkVerdict whole nextVerdict firstRefusal numberAt number run
+unfolding readInterval readVerdict valid allBelow orderedVerdict headVerdict dueVerdict linkVerdict whole nextVerdict firstRefusal numberAt number run
 reads-upward = refl
 
 exchanged-45 : reads (head 2 ++ (second ++ first)) ≡ refusal 45
-unfolding readInterval readVerdict valid fromOf toOf allBelow orderedVerdict headVerdict dueVerdict linkVerdict whole nextVerdict firstRefusal numberAt number run
+unfolding readInterval readVerdict valid allBelow orderedVerdict headVerdict dueVerdict linkVerdict whole nextVerdict firstRefusal numberAt number run
 exchanged-45 = refl
 
 -- cut by a byte; a head with another total and nothing behind it; region 0 twice
 cut-40 : reads (take 51 upward) ≡ refusal 40
-unfolding readInterval readVerdict valid fromOf toOf allBelow orderedVerdict headVerdict dueVerdict linkVerdict whole nextVerdict firstRefusal numberAt number run
+unfolding readInterval readVerdict valid allBelow orderedVerdict headVerdict dueVerdict linkVerdict whole nextVerdict firstRefusal numberAt number run
 cut-40 = refl
 
 total-41 : reads (head 3) ≡ refusal 41
-unfolding readInterval readVerdict valid fromOf toOf allBelow orderedVerdict headVerdict dueVerdict linkVerdict whole nextVerdict firstRefusal numberAt number run
+unfolding readInterval readVerdict valid allBelow orderedVerdict headVerdict dueVerdict linkVerdict whole nextVerdict firstRefusal numberAt number run
 total-41 = refl
 
 twice-45 : reads (head 2 ++ (first ++ first)) ≡ refusal 45
-unfolding readInterval readVerdict valid fromOf toOf allBelow orderedVerdict headVerdict dueVerdict linkVerdict whole nextVerdict firstRefusal numberAt number run
+unfolding readInterval readVerdict valid allBelow orderedVerdict headVerdict dueVerdict linkVerdict whole nextVerdict firstRefusal numberAt number run
 twice-45 = refl
 
 -- into 55 bytes and into 51
 written : writeInterval two said (replicate 55 7) ≡ record { verdict = accepted; length = 52; book = two; buffer = upward ++ (7 ∷ 7 ∷ 7 ∷ []) }
-unfolding writeInterval writeLengths valid fromOf toOf allBelow intervalBytes headRecord regionRecord headWidths regionWidths encode le words joined run
+unfolding writeInterval writeLengths valid allBelow intervalBytes headRecord regionRecord headWidths regionWidths encode le words joined run
 written = refl
 
 short-23 : writeInterval two said (replicate 51 7) ≡ record { verdict = refused 23; length = 0; book = two; buffer = replicate 51 7 }
-unfolding writeInterval writeLengths valid fromOf toOf allBelow
+unfolding writeInterval writeLengths valid allBelow
 short-23 = refl

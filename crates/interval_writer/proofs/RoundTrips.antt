@@ -14,7 +14,6 @@ use Rattle.book.specs.declared.record.Book.{Book}
 use Rattle.book.specs.Validity.{valid}
 use Rattle.book.specs.Record.{marketsOf, hasLink, linkCount, isAccepted}
 use Rattle.book.proofs.Validities.{valid-is}
-use Rattle.book.proofs.Ways.{link-known}
 use Rattle.interval_records.specs.Layout.{Interval, headLength, regionLength, lengthFor, intervalBytes}
 use Rattle.interval_records.specs.InOrder.{orderedVerdict}
 use Rattle.intervals.specs.Lent.{slicesOk}
@@ -53,7 +52,7 @@ module _ (b : Book) (ok : valid b ≡ true) where
       → readInterval b bytes at lent ≡ record { verdict = accepted; next = n; book = b; interval = v }
   unfolding readInterval readVerdict
   says-reads bytes at v f s y lent l n q =
-      rw (ok, l, is-ordered (hasLink b) (link-known b) R M bytes at (says-order (hasLink b) R M bytes at v y), says-interval (hasLink b) R M (omega arith) bytes at v f (λ r. r) (y .head) (y .regions) (y .link) (prices-size b v s) (marked-size b v s) (flows-size b v s) (factors-size b v s), q)
+      rw (ok, l, is-ordered (hasLink b) R M bytes at (says-order (hasLink b) R M bytes at v y), says-interval (hasLink b) R M (omega arith) bytes at v f (λ r. r) (y .head) (y .regions) (y .link) (prices-size b v s) (marked-size b v s) (flows-size b v s) (factors-size b v s), q)
 
 writes : (b : Book) (v : Interval) (buffer : List ℕ) → isAccepted (writeInterval b v buffer .verdict) ≡ true
     → Writes b v (length buffer) × (writeInterval b v buffer ≡ record { verdict = accepted; length = lengthFor b; book = b; buffer = intervalBytes (hasLink b) (b .regions) (marketsOf (b .services)) v ++ drop (lengthFor b) buffer })
@@ -102,7 +101,7 @@ reads b bytes at lent e =
     by-test (valid b)
     (λ a. by-test (slicesOk b lent)
     (λ s. by-test (isAccepted (orderedVerdict (hasLink b) (b .regions) (marketsOf (b .services)) bytes at))
-    (λ r. record { book = a; slices = s; order = ordered-is (hasLink b) (link-known b) _ _ bytes at r; interval = rw (a, s, r) })
+    (λ r. record { book = a; slices = s; order = ordered-is (hasLink b) _ _ bytes at r; interval = rw (a, s, r) })
     (λ r. never (isAccepted (orderedVerdict (hasLink b) (b .regions) (marketsOf (b .services)) bytes at)) (rw (a, s, r) at e) r))
     (λ s. absurd (true-is (rw (a, s) at e))))
     (λ a. absurd (true-is (rw a at e)))

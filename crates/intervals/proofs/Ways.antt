@@ -17,7 +17,7 @@ use Rattle.book.specs.declared.record.Book.{Book}
 use Rattle.book.specs.declared.record.Refusal.{Refusal}
 use Rattle.book.specs.declared.record.Answer.{Answer}
 use Rattle.book.specs.declared.record.Answer.the-variants.{Accepted, Refused}
-use Rattle.book.specs.Record.{marketsOf, tableSize, linksKnown, hasLink, linkCount, verdict, isAccepted}
+use Rattle.book.specs.Record.{marketsOf, tableSize, hasLink, linkCount, verdict, isAccepted}
 use Rattle.book.specs.Validity.{valid}
 use Rattle.book.proofs.Ways.{refusal-is}
 use Rattle.book.proofs.Validities.{valid-is}
@@ -33,15 +33,15 @@ use Rattle.intervals.proofs.Lasts.{last-done}
 use Rattle.intervals.proofs.Sizes.{prices-size, marked-size, flows-size, factors-size}
 
 -- ---- the room of an accepted interval: its head, all its regions' records, and the additional link's
-module _ (linked : Bool) (known : linked ≡ true → linksKnown ≡ true) (R M : ℕ) (bytes : List ℕ) (at : ℕ) (e : isAccepted (orderedVerdict linked R M bytes at) ≡ true) where
+module _ (linked : Bool) (R M : ℕ) (bytes : List ℕ) (at : ℕ) (e : isAccepted (orderedVerdict linked R M bytes at) ≡ true) where
   pub head-room : at + headLength ≤ length bytes
-  head-room = ordered-is linked known R M bytes at e .head .room
+  head-room = ordered-is linked R M bytes at e .head .room
 
   pub records-room : at + headLength + R * regionLength M ≤ length bytes
-  records-room = dues-room R M bytes (at + headLength) head-room (ordered-is linked known R M bytes at e .due) R (omega arith)
+  records-room = dues-room R M bytes (at + headLength) head-room (ordered-is linked R M bytes at e .due) R (omega arith)
 
   pub link-room : linked ≡ true → at + headLength + R * regionLength M + linkLength ≤ length bytes
-  link-room l = ordered-is linked known R M bytes at e .link l .room
+  link-room l = ordered-is linked R M bytes at e .link l .room
 
   pub all-room : at + intervalLength linked R M ≤ length bytes
   all-room = whole-room linked R M bytes at records-room link-room

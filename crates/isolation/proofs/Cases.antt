@@ -17,7 +17,7 @@ use Rattle.pricing.specs.Carrying.{carried}
 use Rattle.pricing.specs.Passing.{cents}
 use Rattle.book.specs.declared.record.Book.{Book}
 use Rattle.book.specs.declared.record.Settings.{Settings}
-use Rattle.book.specs.Record.{marketsOf, fromOf, toOf, linksKnown}
+use Rattle.book.specs.Record.{marketsOf}
 use Rattle.book.specs.Validity.{valid}
 use Rattle.book_calls.specs.Opening.{opened, openVerdict, fresh}
 use Rattle.book_calls.specs.Setting.{thresholdVerdict, limitsVerdict, setThreshold, setLimits}
@@ -85,7 +85,7 @@ same-figures x y f = (figures x ≡ f) × (figures y ≡ f)
 -- ---- R 2, parents 255 and 0, S 0, W 2, H 1, threshold 90,000, limits ±60,000
 abbrev opened-at : ℕ → List Call → Side
 opened-at first L = record {
-  start = opens (settingsOf 2 0 2 1 first (λ r. getD (255 ∷ 0 ∷ []) r 255) (pos 90000) (pos 60000) (negsuc 59999)) (replicate 4 (pos 7));
+  start = opens (settingsOf 2 0 2 1 first (λ r. getD (255 ∷ 0 ∷ []) r 255) 255 255 (pos 90000) (pos 60000) (negsuc 59999)) (replicate 4 (pos 7));
   calls = L;
 }
 
@@ -169,7 +169,7 @@ of-three number prices mark =
 
 abbrev everything : Side
 everything = record {
-  start = opens (settingsOf 2 1 2 1 4 (λ r. getD (255 ∷ 0 ∷ []) r 255) (pos 90000) (pos 60000) (negsuc 59999)) (replicate 8 (pos 7));
+  start = opens (settingsOf 2 1 2 1 4 (λ r. getD (255 ∷ 0 ∷ []) r 255) 255 255 (pos 90000) (pos 60000) (negsuc 59999)) (replicate 8 (pos 7));
   calls =
       of-two 0 (pos 100000 ∷ pos 1 ∷ pos 70000 ∷ pos 95000 ∷ []) 0
       -- refused: 44
@@ -190,7 +190,7 @@ abbrev otherwise : Side
 otherwise = record {
   start =
       loads
-      (imageOf false (fresh (settingsOf 3 1 2 1 4 (λ r. getD (255 ∷ 0 ∷ 1 ∷ []) r 255) (pos 90000) (pos 10) (negsuc 9))) [])
+      (imageOf false (fresh (settingsOf 3 1 2 1 4 (λ r. getD (255 ∷ 0 ∷ 1 ∷ []) r 255) 255 255 (pos 90000) (pos 10) (negsuc 9))) [])
       (replicate 12 (negsuc 7));
   calls =
       of-three 0 (pos 0 ∷ pos 0 ∷ pos 70000 ∷ pos 95000 ∷ pos 100000 ∷ pos 2 ∷ []) 0
@@ -264,7 +264,7 @@ record Computed : Type 0 where
   mark : figures marked ≡ are (of-suspension ∷ []) (row (pos 0) 0 0 ∷ [])
 
 computed : Computed
-unfolding heard reportsOn answers play opened openVerdict valid Entering.entered entryVerdict setThreshold setLimits thresholdVerdict limitsVerdict run firstOf countBelow allBelow anyBelow total reportOf reportVerdict published effective scheduled cappedBy anyAdministered hasLimit limit atMost atLeast extraOf powerOf tighter over Routes.limitOf Routes.overAll Routes.routesFrom Routes.along Routes.joined Routes.after minZ maxZ held carried cents inCents rounded nearest stored storeVerdict imageOf values firsts seconds words widths encode le joined sumFrom loaded loadVerdict headVerdict numberAt number decode bookOf badFrom bookFrom ringFrom windowsFrom sumsFrom fromOf toOf linksKnown
+unfolding heard reportsOn answers play opened openVerdict valid Entering.entered entryVerdict setThreshold setLimits thresholdVerdict limitsVerdict run firstOf countBelow allBelow anyBelow total reportOf reportVerdict published effective scheduled cappedBy anyAdministered hasLimit limit atMost atLeast extraOf powerOf tighter over Routes.limitOf Routes.overAll Routes.routesFrom Routes.along Routes.joined Routes.after minZ maxZ held carried cents inCents rounded nearest stored storeVerdict imageOf values firsts seconds words widths encode le joined sumFrom loaded loadVerdict headVerdict numberAt number decode bookOf badFrom bookFrom ringFrom windowsFrom sumsFrom
 computed = record {
   travel = (refl, refl);
   energies = (refl, refl);
@@ -284,13 +284,13 @@ unfolding opened openVerdict thresholdVerdict run allBelow
 everything-begins = record { accepted = refl; fit = refl }
 
 otherwise-begins : Begins (otherwise .start)
-unfolding valid run firstOf allBelow imageOf values firsts seconds words widths encode le joined sumFrom loaded loadVerdict headVerdict numberAt number decode bookOf badFrom bookFrom ringFrom windowsFrom sumsFrom total fromOf toOf linksKnown
+unfolding valid run firstOf allBelow imageOf values firsts seconds words widths encode le joined sumFrom loaded loadVerdict headVerdict numberAt number decode bookOf badFrom bookFrom ringFrom windowsFrom sumsFrom total
 otherwise-begins = record { accepted = refl; fit = record { entries = refl; marks = refl } }
 
 pub everything-isolated : (n market : ℕ) → Reported-alike
     (bookAfter (everything .start) (everything .calls) n)
     (bookAfter (otherwise .start) (otherwise .calls) n) 1 1 market
-unfolding valid run firstOf allBelow imageOf values firsts seconds words widths encode le joined sumFrom loaded loadVerdict headVerdict numberAt number decode bookOf badFrom bookFrom ringFrom windowsFrom sumsFrom total fromOf toOf linksKnown
+unfolding valid run firstOf allBelow imageOf values firsts seconds words widths encode le joined sumFrom loaded loadVerdict headVerdict numberAt number decode bookOf badFrom bookFrom ringFrom windowsFrom sumsFrom total
 everything-isolated =
     isolation (everything .start) (otherwise .start) (everything .calls) (otherwise .calls) 1
     everything-begins otherwise-begins

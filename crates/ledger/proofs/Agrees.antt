@@ -14,7 +14,7 @@ use Rattle.laws.specs.Lists.{tabulate, total}
 use Rattle.laws.proofs.Tests.{and-left, and-right, by-test}
 use Rattle.laws.proofs.Lists.{tabulate-same, getD-tabulate}
 use Rattle.book.specs.declared.record.Book.{Book}
-use Rattle.book.specs.Record.{marketsOf, placeOf, fromOf, toOf, openedFrom, openedTo}
+use Rattle.book.specs.Record.{marketsOf, placeOf}
 use Rattle.book.specs.Validity.{usedPlace, valid}
 use Rattle.book_calls.specs.Setting.{withSettings}
 use Rattle.book.proofs.Validities.{valid-is}
@@ -47,8 +47,8 @@ pub record Agree (s : Held) (p : Ledger) : Type 0 where
   pub window : p .settings .window ≡ s .book .window
   pub halves : p .settings .halves ≡ s .book .halves
   pub parents : p .settings .parents ≡ s .book .parents
-  pub from : openedFrom (p .settings) ≡ fromOf (s .book)
-  pub to : openedTo (p .settings) ≡ toOf (s .book)
+  pub from : p .settings .from ≡ s .book .from
+  pub to : p .settings .to ≡ s .book .to
   pub entries : s .book .entries ≡ taken p
   pub position : s .book .position ≡ positionAt p (taken p)
   pub threshold : s .book .threshold ≡ thresholdAt p (taken p)
@@ -158,7 +158,6 @@ module _ (s : Held) (p : Ledger) (a : Agree s p) (e : Entry) (room : s .book .en
   some-halves = valid-is b (a .holds .accepted) .some-halves
 
   pub entry-agrees : Agree (record { book = bookAfter b ring e; ring = ringAfter b ring (e .offer) }) next
-  unfolding fromOf toOf
   entry-agrees = record {
     holds = book-kept b ring 0 e [] (a .holds) room priced;
     sized = sized-after b ring e;
@@ -185,7 +184,6 @@ module _ (s : Held) (p : Ledger) (a : Agree s p) (i : Item) (none : entriesOf (i
     (is-threshold : threshold ≡ thresholdBy i (s .book .threshold)) (is-cap : cap ≡ capBy i (s .book .cap)) (is-floor : floor ≡ floorBy i (s .book .floor))
     (ok : valid (withSettings (s .book) threshold cap floor) ≡ true) where
   pub setting-agrees : Agree (record { book = withSettings (s .book) threshold cap floor; ring = s .ring }) (kept p i)
-  unfolding fromOf toOf
   setting-agrees = record {
     holds = setting-kept (s .book) (s .ring) threshold cap floor ok (a .holds);
     sized = record { counts = a .sized .counts; nexts = a .sized .nexts; sums = a .sized .sums; marks = a .sized .marks };

@@ -15,7 +15,7 @@ use Rattle.laws.specs.Lists.{run, lastN, anyBelow}
 use Rattle.laws.proofs.Lists.{tabulate-same, tabulate-const, length-run, flat-div}
 use Rattle.book.specs.declared.record.Book.{Book}
 use Rattle.book.specs.declared.record.Settings.{Settings}
-use Rattle.book.specs.Record.{marketsOf, fromOf, toOf, openedFrom, openedTo, isAccepted}
+use Rattle.book.specs.Record.{marketsOf, isAccepted}
 use Rattle.book.specs.Validity.{usedPlace}
 use Rattle.book.proofs.Validities.{Valid, valid-is, is-valid}
 use Rattle.book_calls.specs.Opening as Opening
@@ -67,7 +67,7 @@ module _ (b : Book) (ring : List ℤ) (k : Kept b ring) (sized : Sized b) (eight
   no-order r m h l = rw (flat-div r m (marketsOf (b .services)) l, none-counted r h)
 
   blank-begins : Agree (record { book = b; ring = ring }) (begin (settingsIn b))
-  unfolding entriesOf before lastSet fromOf toOf openedFrom openedTo
+  unfolding entriesOf before lastSet
   blank-begins =
       let none : b .marks ≡ replicate 88 0 = blank .marks in
       record {
@@ -99,13 +99,13 @@ begins t n ok eight =
     (record { counts = refl; nexts = refl; sums = refl; marks = refl }) eight (record { entries = refl; marks = refl })
 
 -- ---- one that was loaded
-nexts-length : (vs : List ℕ) (s : List ℤ) → length (bookOf vs s .nexts) ≡ 8
+nexts-length : (vs : List ℕ) (from to : ℕ) (s : List ℤ) → length (bookOf vs from to s .nexts) ≡ 8
 unfolding bookOf
-nexts-length vs s = length-run _ 8 0
+nexts-length vs from to s = length-run _ 8 0
 
 from-length : (bytes : List ℕ) → length (bookFrom bytes .nexts) ≡ 8
 unfolding bookFrom
-from-length bytes = nexts-length _ _
+from-length bytes = nexts-length _ _ _ _
 
 image-begins : (bytes : List ℕ) (ring : List ℤ) → isAccepted (loaded bytes ring .verdict) ≡ true → Blank (loaded bytes ring .book)
     → Agree (held (loads bytes ring)) (begin (settings (loads bytes ring)))

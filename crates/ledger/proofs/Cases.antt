@@ -22,7 +22,6 @@ use Rattle.book.specs.Validity.{valid}
 use Rattle.book_calls.specs.Opening as Opening
 use Rattle.book_calls.specs.Report as Report
 use Rattle.book_calls.specs.Report.{Numbers}
-use Rattle.book.specs.Record.{fromOf, toOf, openedFrom, openedTo, linksKnown}
 use Rattle.routes.specs.Limits.{tighter, over}
 use Rattle.routes.specs.Links.{extraOf, powerOf}
 use Rattle.routes.specs.Routes as Routes
@@ -63,7 +62,7 @@ reports number (restarted v ∷ l) = reports number l
 -- ---- the books
 -- "S 0, .. H 1, first position 0, threshold 95,000, limits ±60,000"
 abbrev book : ℕ → ℕ → List ℕ → Settings
-book regions window parents = settingsOf regions 0 window 1 0 (λ r. getD parents r 255) (pos 95000) (pos 60000) (negsuc 59999)
+book regions window parents = settingsOf regions 0 window 1 0 (λ r. getD parents r 255) 255 255 (pos 95000) (pos 60000) (negsuc 59999)
 
 -- "its list may begin with such an image of a book without entries .., as the worked books of document 01 then do" (request 2026-06):
 -- its image, loaded into a ring that held something
@@ -152,5 +151,5 @@ cases = Pricing.cases ++ (Schedule.cases ++ bookCases)
 
 -- the one test over all of them
 pub cases-agree : agree cases ≡ true
-unfolding agree cases bookCases Pricing.cases Schedule.cases indexed mean sameNumbers answers Ledger.play Book.play entryVerdict entriesOf firstOf run countBelow published Ledger.reportOf atLeast Report.reportVerdict limit total administeredAt Routes.limitOf lastN anyBelow Routes.overAll unmarkedPrices lastSet Routes.routesFrom before tighter allBelow Routes.along hasLimit atMost cappedBy effective Entering.entered Report.reportOf valid over extraOf powerOf minZ maxZ held carried cents inCents rounded nearest Routes.joined Routes.after scheduled anyAdministered imageOf values firsts seconds words widths encode le joined sumFrom loaded loadVerdict headVerdict numberAt number decode bookOf badFrom bookFrom ringFrom windowsFrom sumsFrom fromOf toOf openedFrom openedTo linksKnown
+unfolding agree cases bookCases Pricing.cases Schedule.cases indexed mean sameNumbers answers Ledger.play Book.play entryVerdict entriesOf firstOf run countBelow published Ledger.reportOf atLeast Report.reportVerdict limit total administeredAt Routes.limitOf lastN anyBelow Routes.overAll unmarkedPrices lastSet Routes.routesFrom before tighter allBelow Routes.along hasLimit atMost cappedBy effective Entering.entered Report.reportOf valid over extraOf powerOf minZ maxZ held carried cents inCents rounded nearest Routes.joined Routes.after scheduled anyAdministered imageOf values firsts seconds words widths encode le joined sumFrom loaded loadVerdict headVerdict numberAt number decode bookOf badFrom bookFrom ringFrom windowsFrom sumsFrom
 cases-agree = refl

@@ -18,7 +18,6 @@ use Rattle.book.specs.declared.record.Settings.{Settings}
 use Rattle.book.specs.Validity.{valid}
 use Rattle.book_calls.specs.Opening as Opening
 use Rattle.book_calls.specs.Setting.{thresholdVerdict}
-use Rattle.book.specs.Record.{fromOf, toOf, openedFrom, openedTo, linksKnown}
 use Rattle.routes.specs.Limits.{tighter, over}
 use Rattle.routes.specs.Links.{extraOf, powerOf}
 use Rattle.routes.specs.Routes as Routes
@@ -38,7 +37,7 @@ use Rattle.ledger.proofs.Cases.{tables, bothFrom, twice}
 
 -- each region's parent is the one before it; S 0, W 1, H 1, threshold 90,000
 abbrev chain : ℕ → ℤ → ℤ → Settings
-chain regions cap floor = settingsOf regions 0 1 1 0 (λ r. pick (ltb 0 r && ltb r regions) (r - 1) 255) (pos 90000) cap floor
+chain regions cap floor = settingsOf regions 0 1 1 0 (λ r. pick (ltb 0 r && ltb r regions) (r - 1) 255) 255 255 (pos 90000) cap floor
 
 -- an entry at these prices, the flow over every link the same
 abbrev interval : ℕ → ℤ → List ℕ → List ℤ → Call
@@ -81,5 +80,5 @@ cases =
 
 -- the one test over the rows
 pub cases-agree : agree cases ≡ true
-unfolding agree cases sameNumbers answers Ledger.play Book.play entryVerdict entriesOf firstOf run countBelow published atLeast limit total administeredAt Routes.limitOf lastN anyBelow Routes.overAll unmarkedPrices lastSet Routes.routesFrom before tighter allBelow Routes.along hasLimit atMost cappedBy effective Opening.opened Opening.openVerdict thresholdVerdict Entering.entered valid over extraOf powerOf minZ maxZ held carried cents inCents rounded nearest Routes.joined Routes.after scheduled anyAdministered fromOf toOf openedFrom openedTo linksKnown
+unfolding agree cases sameNumbers answers Ledger.play Book.play entryVerdict entriesOf firstOf run countBelow published atLeast limit total administeredAt Routes.limitOf lastN anyBelow Routes.overAll unmarkedPrices lastSet Routes.routesFrom before tighter allBelow Routes.along hasLimit atMost cappedBy effective Opening.opened Opening.openVerdict thresholdVerdict Entering.entered valid over extraOf powerOf minZ maxZ held carried cents inCents rounded nearest Routes.joined Routes.after scheduled anyAdministered
 cases-agree = refl

@@ -17,7 +17,7 @@ use Rattle.pricing.specs.Verdict.{Verdict, accepted, refusedAt}
 use Rattle.pricing.specs.Holding.{limitsOk}
 use Rattle.book.specs.declared.record.Book.{Book}
 use Rattle.book.specs.declared.record.Settings.{Settings}
-use Rattle.book.specs.Record.{marketsOf, tableSize, ringSize, isLinked, linksWith, openedFrom, isAccepted}
+use Rattle.book.specs.Record.{marketsOf, tableSize, ringSize, isLinked, linksWith, isAccepted}
 use Rattle.book.specs.Validity.{thresholdOk, valid}
 use Rattle.book_calls.specs.Setting.{inHundreds, thresholdVerdict, limitsVerdict, withSettings, changed, setThreshold, setLimits}
 use Rattle.book_calls.specs.Report.{reportVerdict}
@@ -30,7 +30,7 @@ use Rattle.image.specs.Storing as Storing
 use Rattle.image.specs.Storing.{storeVerdict, stored}
 use Rattle.image.specs.Loading as Loading
 use Rattle.image.specs.Loading.{loaded}
-use Rattle.ledger.specs.Calls.{Call, entry, threshold, limits, report, restart, goesSecond, Answer, entered, set, reported, answers, verdictIn, Never, refusedAnswer, Zeros, withoutRestarts, dropRestarts}
+use Rattle.ledger.specs.Calls.{Call, entry, threshold, limits, report, restart, Answer, entered, set, reported, answers, verdictIn, Never, refusedAnswer, Zeros, withoutRestarts, dropRestarts}
 use Rattle.ledger.specs.Calls.{restarted, Step, after}
 use Rattle.ledger.specs.Ledger as Ledger
 use Rattle.ledger.specs.Ledger.{Ledger, interval, taken, unmarkedPrices, entriesOf, countsTo, imageLength, allowed, reportOf, restartVerdict}
@@ -102,7 +102,7 @@ answer-other p (limits c f) = limits-other c f
 answer-other p (report r m) =
     by-test (isAccepted (reportVerdict (p .settings .regions) (p .settings .services) r m))
     (λ t. rw t (by-other 0 0 tt tt)) (λ t. rw t (report-other (p .settings .regions) (p .settings .services) r m))
-answer-other p (restart second buffer ring) = restart-other (goesSecond second) p (length buffer) (length ring)
+answer-other p (restart second buffer ring) = restart-other second p (length buffer) (length ring)
 
 never-p : (L : List Call) (p : Ledger) → Never 10 (answers Ledger.play p L) × Never 22 (answers Ledger.play p L)
 unfolding answers
@@ -170,11 +170,11 @@ image-most second p =
     omega arith
 
 -- "P accepts both calls and does nothing"
-restart-p : (kind : Bool) (p : Ledger) (buffer : List ℕ) (ring : List ℤ) → allowed (goesSecond kind) p ≡ true → length ring ≡ placesOf (p .settings)
-    → imageLength (goesSecond kind) p ≤ length buffer → Ledger.play p (restart kind buffer ring) ≡ record { state = p; answer = restarted accepted }
+restart-p : (kind : Bool) (p : Ledger) (buffer : List ℕ) (ring : List ℤ) → allowed kind p ≡ true → length ring ≡ placesOf (p .settings)
+    → imageLength kind p ≤ length buffer → Ledger.play p (restart kind buffer ring) ≡ record { state = p; answer = restarted accepted }
 unfolding Ledger.play restartVerdict
 restart-p kind p buffer ring k e h =
-    rw (k, le-ltb (length buffer) (imageLength (goesSecond kind) p) h, eq-eqb (length ring) (placesOf (p .settings)) e)
+    rw (k, le-ltb (length buffer) (imageLength kind p) h, eq-eqb (length ring) (placesOf (p .settings)) e)
 
 -- two machines that answer a list of calls alike answer its last call alike
 last-alike : {S T : Type 0} (f : S → Call → Step S) (g : T → Call → Step T) (L : List Call) (c : Call) (s : S) (t : T)
@@ -223,16 +223,16 @@ refused-b s (threshold x) h = refused-setting s (thresholdVerdict x) (withSettin
 refused-b s (limits c f) h = refused-setting s (limitsVerdict c f) (withSettings (s .book) (s .book .threshold) c f) h
 refused-b s (report r m) h = refl
 refused-b s (restart second buffer g) h =
-    let k = goesSecond second in refused-restart s (stored k (s .book) (s .ring) buffer) g (handed k (s .book) (s .ring) buffer) h
+    refused-restart s (stored second (s .book) (s .ring) buffer) g (handed second (s .book) (s .ring) buffer) h
 
 -- ---- the base's form: from an opening, whose own accepted answer is all that is asked
-pub from-opening : (regions services window halves first : ℕ) (parents : ℕ → ℕ) (θ cap floor : ℤ) (ring : List ℤ) (L : List Call)
-    → Opening.opened (settingsOf regions services window halves first parents θ cap floor) ring .verdict .number ≡ 0
-    → Answers-alike (held (opens (settingsOf regions services window halves first parents θ cap floor) ring))
-    (Ledger.begin (settingsOf regions services window halves first parents θ cap floor)) L
+pub from-opening : (regions services window halves first : ℕ) (parents : ℕ → ℕ) (from to : ℕ) (θ cap floor : ℤ) (ring : List ℤ) (L : List Call)
+    → Opening.opened (settingsOf regions services window halves first parents from to θ cap floor) ring .verdict .number ≡ 0
+    → Answers-alike (held (opens (settingsOf regions services window halves first parents from to θ cap floor) ring))
+    (Ledger.begin (settingsOf regions services window halves first parents from to θ cap floor)) L
 unfolding Demand-3
-from-opening regions services window halves first parents θ cap floor ring L e =
-    demand-3 (opens (settingsOf regions services window halves first parents θ cap floor) ring) L
+from-opening regions services window halves first parents from to θ cap floor ring L e =
+    demand-3 (opens (settingsOf regions services window halves first parents from to θ cap floor) ring) L
     (record { accepted = e; fit = length-run parents 8 0 })
 
 -- ---- over every list of calls, from every start that P's list may begin with
@@ -259,8 +259,8 @@ module _ (start : Start) (b : Begins start) where
   -- "A restart is an image stored into a long enough buffer and loaded, from exactly its bytes, into another ring of the right length,
   -- with which L goes on; P accepts both calls and does nothing": at every point of every L, whatever buffer and ring hold. Long enough
   -- is the length of the image that is stored there; the kind is one that 47 allows
-  pub restart-accepted : (kind : Bool) (L : List Call) (buffer : List ℕ) (other : List ℤ) → allowed (goesSecond kind) beginning ≡ true
-      → length other ≡ placesOf (settings start) → imageLength (goesSecond kind) (after Ledger.play beginning L) ≤ length buffer
+  pub restart-accepted : (kind : Bool) (L : List Call) (buffer : List ℕ) (other : List ℤ) → allowed kind beginning ≡ true
+      → length other ≡ placesOf (settings start) → imageLength kind (after Ledger.play beginning L) ≤ length buffer
       → (Book.play (after Book.play (held start) L) (restart kind buffer other) .answer ≡ restarted accepted)
       × (Ledger.play (after Ledger.play beginning L) (restart kind buffer other)
       ≡ record { state = after Ledger.play beginning L; answer = restarted accepted })
@@ -268,7 +268,7 @@ module _ (start : Start) (b : Begins start) where
       let q = after Ledger.play beginning L in
       let same-settings : q .settings ≡ settings start = settings-after L beginning in
       let size : length other ≡ placesOf (q .settings) = e ∙ ap placesOf (sym same-settings) in
-      let tells : allowed (goesSecond kind) q ≡ true = ap (λ (t : Settings). goesSecond kind || not (isLinked (openedFrom t))) same-settings ∙ k in
+      let tells : allowed kind q ≡ true = ap (λ (t : Settings). kind || not (isLinked (t .from))) same-settings ∙ k in
       let p = restart-p kind q buffer other tells size h in (
         last-alike Book.play Ledger.play L (restart kind buffer other) (held start) beginning (same (L ++ restart kind buffer other ∷ []))
             ∙ ap (λ (x : Step Ledger). x .answer) p,
@@ -276,11 +276,11 @@ module _ (start : Start) (b : Begins start) where
       )
 
   -- and 148 (of kind 2 156) + 4 × R × M × W bytes are long enough at every point
-  pub restart-always : (kind : Bool) (L : List Call) (buffer : List ℕ) (other : List ℤ) → allowed (goesSecond kind) beginning ≡ true
-      → length other ≡ placesOf (settings start) → mostBytes (goesSecond kind) (settings start) ≤ length buffer
+  pub restart-always : (kind : Bool) (L : List Call) (buffer : List ℕ) (other : List ℤ) → allowed kind beginning ≡ true
+      → length other ≡ placesOf (settings start) → mostBytes kind (settings start) ≤ length buffer
       → (Book.play (after Book.play (held start) L) (restart kind buffer other) .answer ≡ restarted accepted)
       × (Ledger.play (after Ledger.play beginning L) (restart kind buffer other)
       ≡ record { state = after Ledger.play beginning L; answer = restarted accepted })
   restart-always kind L buffer other k e h =
       restart-accepted kind L buffer other k e
-      (omega (arith, image-most (goesSecond kind) (after Ledger.play beginning L), ap (mostBytes (goesSecond kind)) (settings-after L beginning)))
+      (omega (arith, image-most kind (after Ledger.play beginning L), ap (mostBytes kind) (settings-after L beginning)))

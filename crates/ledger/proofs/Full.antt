@@ -10,7 +10,6 @@ use borrow.Author.Tests.{le-leb, lt-leb, eq-eqb}
 use lib.IntN.{pos, negsuc}
 use Rattle.laws.specs.Lists.{run, allBelow, firstOf}
 use Rattle.pricing.specs.Verdict.{refused}
-use Rattle.book.specs.Record.{openedFrom}
 use Rattle.book.specs.declared.record.Settings.{Settings}
 use Rattle.book_calls.specs.Opening as Opening
 use Rattle.book_calls.specs.Setting.{thresholdVerdict}
@@ -26,7 +25,7 @@ use Rattle.ledger.proofs.Corollaries.{from-opening}
 
 -- R 1, S 0, W 1, H 1, no parents
 abbrev pub settings : Settings
-settings = settingsOf 1 0 1 1 0 (λ r. 255) (pos 90000) (pos 60000) (negsuc 59999)
+settings = settingsOf 1 0 1 1 0 (λ r. 255) 255 255 (pos 90000) (pos 60000) (negsuc 59999)
 
 -- an entry whose region is marked, lent a table that holds something
 abbrev marked : Entry
@@ -41,11 +40,11 @@ holding h = record { settings = settings; items = h }
 module _ (h : List Item) where
   -- with room for it the next entry is taken
   next-taken : taken (holding h) < 10000000 → Ledger.play (holding h) (call (taken (holding h))) .state ≡ kept (holding h) (interval marked)
-  unfolding Ledger.play entryVerdict firstOf run openedFrom
+  unfolding Ledger.play entryVerdict firstOf run
   next-taken l = rw (lt-leb 10000000 (taken (holding h)) l, eq-eqb (taken (holding h)) (taken (holding h)) refl)
 
   full-refused : (n : ℕ) → 10000000 ≤ taken (holding h) → Ledger.play (holding h) (call n) .answer ≡ entered (refused 12) 0 (pos 9 ∷ [])
-  unfolding Ledger.play entryVerdict openedFrom
+  unfolding Ledger.play entryVerdict
   full-refused n l = rw (le-leb 10000000 (taken (holding h)) l)
 
 -- what a ledger has become: still of these settings, with so many entries
@@ -95,7 +94,7 @@ pub full : (n : ℕ) → answers Book.play (held (opens settings (pos 77 ∷ [])
     ≡ answers Ledger.play (Ledger.begin settings) (run 10000000 0 call) ++ entered (refused 12) 0 (pos 9 ∷ []) ∷ []
 full n =
     let L = run 10000000 0 call in
-    from-opening 1 0 1 1 0 (λ r. 255) (pos 90000) (pos 60000) (negsuc 59999) (pos 77 ∷ []) (L ++ call n ∷ []) opening-accepted .during
+    from-opening 1 0 1 1 0 (λ r. 255) 255 255 (pos 90000) (pos 60000) (negsuc 59999) (pos 77 ∷ []) (L ++ call n ∷ []) opening-accepted .during
     ∙ answers-append Ledger.play L (call n ∷ []) (Ledger.begin settings)
     ∙ ap (λ (l : List Answer). answers Ledger.play (Ledger.begin settings) L ++ l)
     (one-answer (after Ledger.play (Ledger.begin settings) L) (call n) ∙ ap (λ (a : Answer). a ∷ []) (full-p n))

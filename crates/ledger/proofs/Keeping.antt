@@ -17,7 +17,7 @@ use Rattle.laws.specs.Lists.{run, total}
 use Rattle.laws.proofs.Tests.{by-test, lt-or-ge}
 use Rattle.book.specs.declared.record.Book.{Book}
 use Rattle.book.specs.declared.record.Settings.{Settings}
-use Rattle.book.specs.Record.{marketsOf, placeOf, ringSize, fromOf, toOf, isAccepted}
+use Rattle.book.specs.Record.{marketsOf, placeOf, ringSize, isAccepted}
 use Rattle.book.specs.Validity.{usedPlace, valid}
 use Rattle.book_calls.specs.Opening.{fresh}
 use Rattle.book_calls.specs.Setting.{withSettings}
@@ -77,7 +77,6 @@ module _ (b : Book) (ring : List ℤ) (ok : valid b ≡ true) (size : length rin
       (λ t. rw t (omega arith)))
 
   after-valid : Valid (bookAfter b ring e)
-  unfolding fromOf toOf
   after-valid =
       let f : Valid b = valid-is b ok in
       let s : Sound b ring = valid-sound b ring ok size in

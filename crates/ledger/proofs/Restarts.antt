@@ -11,11 +11,11 @@ use lib.IntN.{ℤ, pos}
 use lib.ListN.{length, getD, take}
 use Rattle.laws.specs.Base.{pick}
 use Rattle.laws.specs.Lists.{total, sumFrom}
-use Rattle.laws.proofs.Tests.{and-right, by-test, lt-or-ge}
+use Rattle.laws.proofs.Tests.{by-test, lt-or-ge}
 use Rattle.laws.proofs.Lists.{flat-lt, length-run}
 use Rattle.pricing.specs.Verdict.{Verdict, accepted, refused}
 use Rattle.book.specs.declared.record.Book.{Book}
-use Rattle.book.specs.Record.{closed, marketsOf, placeOf, ringSize, fromOf, toOf, linksKnown, isAccepted}
+use Rattle.book.specs.Record.{closed, marketsOf, placeOf, ringSize, isAccepted}
 use Rattle.book.specs.Validity.{valid}
 use Rattle.book.proofs.Validities.{Valid, valid-is}
 use Rattle.head.specs.Counted.{inOrder, howMany}
@@ -27,7 +27,7 @@ use Rattle.image.specs.Loading.{loaded}
 use Rattle.image.proofs.Typed.{Typed}
 use Rattle.image.proofs.Verdicts.{StoreOk, ok-stored}
 use Rattle.image.proofs.RoundTrips.{anew, relaid, image-length, reload, load-other-ring, anew-same, anew-valid, anew-typed, relaid-length}
-use Rattle.ledger.specs.Calls.{restart, goesSecond, Answer, restarted, Step}
+use Rattle.ledger.specs.Calls.{restart, Answer, restarted, Step}
 use Rattle.ledger.specs.Ledger as Ledger
 use Rattle.ledger.specs.Ledger.{Ledger, taken, lastPrices, countsTo, imageLength, restartVerdict, allowed}
 use Rattle.ledger.specs.Book as Book
@@ -103,7 +103,6 @@ module _ (s : Held) (p : Ledger) (a : Agree s p) where
         }
 
     restart-agrees : Agree (record { book = anew (s .book); ring = relaid (s .book) (s .ring) }) p
-    unfolding fromOf toOf
     restart-agrees =
         let t = anew-typed second (s .book) (s .ring) buffer typed store-accepted in
         record {
@@ -141,19 +140,13 @@ module _ (s : Held) (p : Ledger) (a : Agree s p) where
   own-ring : eqb (length (s .ring)) (ringSize (s .book .regions) (s .book .services) (s .book .window)) ≡ true
   own-ring = eq-eqb _ _ (a .holds .ring-size)
 
-  module _ (kind : Bool) (buffer : List ℕ) (g : List ℤ) where
-    abbrev second : Bool
-    second = goesSecond kind
-
-    known : second ≡ true → linksKnown ≡ true
-    known e = and-right kind linksKnown e
-
-    first-alike : kindTells second (s .book) ≡ false → Alike (Book.play s (restart kind buffer g)) (Ledger.play p (restart kind buffer g))
+  module _ (second : Bool) (buffer : List ℕ) (g : List ℤ) where
+    first-alike : kindTells second (s .book) ≡ false → Alike (Book.play s (restart second buffer g)) (Ledger.play p (restart second buffer g))
     unfolding Book.play Ledger.play restartVerdict stored storeVerdict
     first-alike k = rw (tells-agrees second, a .holds .accepted, own-ring, a .holds .prices, k) (refl, a)
 
     module _ (k : kindTells second (s .book) ≡ true) where
-      short-alike : ltb (length buffer) (lengthOf second (s .book)) ≡ true → Alike (Book.play s (restart kind buffer g)) (Ledger.play p (restart kind buffer g))
+      short-alike : ltb (length buffer) (lengthOf second (s .book)) ≡ true → Alike (Book.play s (restart second buffer g)) (Ledger.play p (restart second buffer g))
       unfolding Book.play Ledger.play restartVerdict stored storeVerdict
       short-alike t = rw (tells-agrees second, length-agrees second, a .holds .accepted, own-ring, a .holds .prices, k, t) (refl, a)
 
@@ -166,7 +159,7 @@ module _ (s : Held) (p : Ledger) (a : Agree s p) where
 
         -- the store is accepted and hands the book back, so that the restart is the load
         restart-is : (x : Loading.Outcome) → loaded (take (stored second (s .book) (s .ring) buffer .length) (stored second (s .book) (s .ring) buffer .buffer)) g ≡ x
-            → Book.play s (restart kind buffer g) ≡ Book.loads s x
+            → Book.play s (restart second buffer g) ≡ Book.loads s x
         unfolding Book.play
         restart-is x e = rw (accepts, e) (ap (λ (b : Book). Book.loads (record { book = b; ring = s .ring }) x) (handed second k buffer room))
 
@@ -179,27 +172,26 @@ module _ (s : Held) (p : Ledger) (a : Agree s p) where
             go true = refl
             go false = refl
 
-        right-alike : eqb (length g) (ringSize (s .book .regions) (s .book .services) (s .book .window)) ≡ true → Alike (Book.play s (restart kind buffer g)) (Ledger.play p (restart kind buffer g))
+        right-alike : eqb (length g) (ringSize (s .book .regions) (s .book .services) (s .book .window)) ≡ true → Alike (Book.play s (restart second buffer g)) (Ledger.play p (restart second buffer g))
         unfolding Ledger.play
         right-alike q =
-            let e = restart-is (record { verdict = accepted; book = anew (s .book); ring = relaid (s .book) (s .ring) }) (reload second (s .book) (s .ring) buffer typed accepts known g (eqb-true _ _ q)) in (
+            let e = restart-is (record { verdict = accepted; book = anew (s .book); ring = relaid (s .book) (s .ring) }) (reload second (s .book) (s .ring) buffer typed accepts g (eqb-true _ _ q)) in (
               ap (λ (x : Step Held). x .answer) e ∙ ap restarted (sym (says true q)),
               subst (λ (x : Step Held). Agree (x .state) p) (sym e) (restart-agrees second k buffer room),
             )
 
-        wrong-alike : eqb (length g) (ringSize (s .book .regions) (s .book .services) (s .book .window)) ≡ false → Alike (Book.play s (restart kind buffer g)) (Ledger.play p (restart kind buffer g))
+        wrong-alike : eqb (length g) (ringSize (s .book .regions) (s .book .services) (s .book .window)) ≡ false → Alike (Book.play s (restart second buffer g)) (Ledger.play p (restart second buffer g))
         unfolding Ledger.play
         wrong-alike q =
             let i = image-length second (s .book) (s .ring) buffer typed accepts in
-            let e = restart-is (record { verdict = refused 11; book = closed; ring = g }) (rw i (load-other-ring second (s .book) (s .ring) buffer typed accepts known g q)) in (
+            let e = restart-is (record { verdict = refused 11; book = closed; ring = g }) (rw i (load-other-ring second (s .book) (s .ring) buffer typed accepts g q)) in (
               ap (λ (x : Step Held). x .answer) e ∙ ap restarted (sym (says false q)),
               subst (λ (x : Step Held). Agree (x .state) p) (sym e) a,
             )
 
-  pub restart-alike : (kind : Bool) (buffer : List ℕ) (g : List ℤ) → Alike (Book.play s (restart kind buffer g)) (Ledger.play p (restart kind buffer g))
-  restart-alike kind buffer g =
-      let second = goesSecond kind in
+  pub restart-alike : (second : Bool) (buffer : List ℕ) (g : List ℤ) → Alike (Book.play s (restart second buffer g)) (Ledger.play p (restart second buffer g))
+  restart-alike second buffer g =
       by-test (kindTells second (s .book))
-      (λ k. by-test (ltb (length buffer) (lengthOf second (s .book))) (λ t. short-alike kind buffer g k t)
-      (λ t. by-test (eqb (length g) (ringSize (s .book .regions) (s .book .services) (s .book .window))) (λ q. right-alike kind buffer g k t q) (λ q. wrong-alike kind buffer g k t q)))
-      (λ k. first-alike kind buffer g k)
+      (λ k. by-test (ltb (length buffer) (lengthOf second (s .book))) (λ t. short-alike second buffer g k t)
+      (λ t. by-test (eqb (length g) (ringSize (s .book .regions) (s .book .services) (s .book .window))) (λ q. right-alike second buffer g k t q) (λ q. wrong-alike second buffer g k t q)))
+      (λ k. first-alike second buffer g k)

@@ -21,7 +21,6 @@ use Rattle.book_calls.specs.Opening.{fresh}
 use Rattle.book_calls.specs.Setting.{thresholdVerdict, limitsVerdict, setThreshold, setLimits}
 use Rattle.book_calls.specs.Report as Report
 use Rattle.book_calls.specs.Report.{nothing}
-use Rattle.book.specs.Record.{fromOf, toOf, openedFrom, openedTo, linksKnown}
 use Rattle.routes.specs.Limits.{tighter, over}
 use Rattle.routes.specs.Links.{extraOf, powerOf}
 use Rattle.routes.specs.Routes as Routes
@@ -44,7 +43,7 @@ use Rattle.ledger.specs.Demand.{Start, loads, Begins, settingsOf}
 
 -- R 2, S 1, W 2, H 1, parents 255 and 0. A day has six positions and the first is 3, so that entry 2 is at D−1
 abbrev pub settings : Settings
-settings = settingsOf 2 1 2 1 3 (λ r. getD (255 ∷ 0 ∷ []) r 255) (pos 95000) (pos 60000) (negsuc 59999)
+settings = settingsOf 2 1 2 1 3 (λ r. getD (255 ∷ 0 ∷ []) r 255) 255 255 (pos 95000) (pos 60000) (negsuc 59999)
 
 -- an image of a book with these settings and without entries, loaded into a ring that held something
 abbrev pub start : Start
@@ -151,10 +150,10 @@ expected =
 
 -- P's list may begin with it
 pub begins : Begins start
-unfolding valid run firstOf allBelow imageOf values firsts seconds words widths encode le joined sumFrom loaded loadVerdict headVerdict numberAt number decode bookOf badFrom bookFrom ringFrom windowsFrom sumsFrom total fromOf toOf openedFrom openedTo linksKnown
+unfolding valid run firstOf allBelow imageOf values firsts seconds words widths encode le joined sumFrom loaded loadVerdict headVerdict numberAt number decode bookOf badFrom bookFrom ringFrom windowsFrom sumsFrom total
 begins = record { accepted = refl; fit = record { entries = refl; marks = refl } }
 
 -- the book as loaded, and P
 pub runs : (answers Book.play (Demand.held start) calls ≡ expected) × (answers Ledger.play (Ledger.begin (Demand.settings start)) calls ≡ expected)
-unfolding answers Book.play Ledger.play valid Entering.entered entryVerdict setThreshold setLimits thresholdVerdict limitsVerdict entriesOf before lastSet unmarkedPrices administeredAt countsTo restartVerdict run firstOf countBelow allBelow anyBelow total lastN Ledger.reportOf Report.reportOf Report.reportVerdict published effective scheduled cappedBy anyAdministered hasLimit limit atMost atLeast extraOf powerOf tighter over Routes.limitOf Routes.overAll Routes.routesFrom Routes.along Routes.joined Routes.after minZ maxZ held carried cents inCents rounded nearest stored storeVerdict imageOf values firsts seconds words widths encode le joined sumFrom loaded loadVerdict headVerdict numberAt number decode bookOf badFrom bookFrom ringFrom windowsFrom sumsFrom fromOf toOf openedFrom openedTo linksKnown
+unfolding answers Book.play Ledger.play valid Entering.entered entryVerdict setThreshold setLimits thresholdVerdict limitsVerdict entriesOf before lastSet unmarkedPrices administeredAt countsTo restartVerdict run firstOf countBelow allBelow anyBelow total lastN Ledger.reportOf Report.reportOf Report.reportVerdict published effective scheduled cappedBy anyAdministered hasLimit limit atMost atLeast extraOf powerOf tighter over Routes.limitOf Routes.overAll Routes.routesFrom Routes.along Routes.joined Routes.after minZ maxZ held carried cents inCents rounded nearest stored storeVerdict imageOf values firsts seconds words widths encode le joined sumFrom loaded loadVerdict headVerdict numberAt number decode bookOf badFrom bookFrom ringFrom windowsFrom sumsFrom
 runs = (refl, refl)

@@ -17,7 +17,7 @@ use Rattle.laws.proofs.Tests.{by-test, and-left, and-right, lt-or-ge}
 use Rattle.pricing.specs.Verdict.{Verdict, accepted, refused}
 use Rattle.pricing.specs.Holding.{limitsOk}
 use Rattle.book.specs.declared.record.Book.{Book}
-use Rattle.book.specs.Record.{marketsOf, placeOf, ringSize, fromOf, toOf, isAccepted}
+use Rattle.book.specs.Record.{marketsOf, placeOf, ringSize, isAccepted}
 use Rattle.book.specs.Validity.{usedPlace, thresholdOk, valid}
 use Rattle.book_calls.specs.Setting as Setting
 use Rattle.book_calls.specs.Setting.{thresholdVerdict, limitsVerdict, withSettings, changed, setThreshold, setLimits}
@@ -50,7 +50,6 @@ record Rings (b : Book) (ring : List ℤ) (nexts : List ℕ) (ring′ : List ℤ
 -- other next places and another ring with the same counted prices
 nexts-alone : (b : Book) (ring : List ℤ) (nexts : List ℕ) (ring′ : List ℤ) → Rings b ring nexts ring′
     → valid b ≡ true → valid (withNexts b nexts) ≡ true → Same b ring (withNexts b nexts) ring′
-unfolding fromOf toOf
 nexts-alone b ring nexts ring′ rings v w = record {
   regions = refl;
   services = refl;
@@ -91,7 +90,6 @@ module _ (b : Book) (ring : List ℤ) (b′ : Book) (ring′ : List ℤ) (s : Sa
 valid-nexts : (b : Book) (nexts : List ℕ) → valid b ≡ true
     → ((r : ℕ) → r < b .regions → Placed (b .window) (getD (b .counts) r 0) (getD nexts r 0))
     → ((r : ℕ) → b .regions ≤ r → r < 8 → getD nexts r 0 ≡ 0) → valid (withNexts b nexts) ≡ true
-unfolding fromOf toOf
 valid-nexts b nexts v placed unused =
     let f : Valid b = valid-is b v in
     is-valid (withNexts b nexts) (record {
@@ -171,7 +169,6 @@ module _ (b : Book) (ring : List ℤ) (nexts : List ℕ) (ring′ : List ℤ) (s
 
   book-same : valid (bookAfter b ring e) ≡ true
       → Same (bookAfter b ring e) (ringAfter b ring (e .offer)) (bookAfter c ring′ e) (ringAfter c ring′ (e .offer))
-  unfolding fromOf toOf
   book-same ok = record {
     regions = refl;
     services = refl;
@@ -199,7 +196,6 @@ module _ (b : Book) (ring : List ℤ) (nexts : List ℕ) (ring′ : List ℤ) (s
   }
 
   nexts-same : (number : ℕ) (table : List ℤ) → Alike (entered b ring number e table) (entered c ring′ number e table)
-  unfolding fromOf toOf
   nexts-same number table =
       let x : enterVerdict b (length ring) number e (length table) ≡ enterVerdict c (length ring′) number e (length table) =
       ap₂ (λ (t : Bool) (n : ℕ). pick (not t) (refused 10) (entryVerdict (shapeOf b) (b .entries) n number e (length table)))

@@ -1,11 +1,11 @@
 -- Lists of calls and their answers, for P and for the book alike. Assumes nothing.
 use mathlib.Core.Path.{_≡_}
-use mathlib.Core.Bool.{Bool, false, _&&_}
+use mathlib.Core.Bool.{Bool, false}
 use mathlib.Core.List.{List, [], _∷_}
 use Prim.Native.Nat.{ℕ}
 use lib.IntN.{ℤ}
 use Rattle.pricing.specs.Verdict.{Verdict}
-use Rattle.book.specs.Record.{linksKnown, isAccepted}
+use Rattle.book.specs.Record.{isAccepted}
 use Rattle.book_calls.specs.Report.{Numbers, nothing}
 use Rattle.publishing.specs.Entry.{Entry}
 
@@ -18,10 +18,6 @@ pub data Call : Type 0 where
   limits : ℤ → ℤ → Call
   report : ℕ → ℕ → Call
   restart : Bool → List ℕ → List ℤ → Call
-
--- the kind by which a restart goes: kind 2 isn't known yet (2026-10 is prepared), so that until then both go by kind 1
-abbrev pub goesSecond : Bool → Bool
-goesSecond second = second && linksKnown
 
 -- "Compared, for each call of L: acceptance, or refusal with its place; an entry's count and published table; a report's
 -- four numbers"

@@ -51,6 +51,8 @@ settingsIn b = record {
   halves = b .halves;
   first = b .position;
   parents = b .parents;
+  from = b .from;
+  to = b .to;
   threshold = b .threshold;
   cap = b .cap;
   floor = b .floor;
@@ -78,14 +80,16 @@ pub record Begins (start : Start) : Type 0 where
   pub fit : Fit start
 
 -- the settings of an opening one by one, the eight parent bytes by a function
-abbrev pub settingsOf : ℕ → ℕ → ℕ → ℕ → ℕ → (ℕ → ℕ) → ℤ → ℤ → ℤ → Settings
-settingsOf regions services window halves first parents threshold cap floor = record {
+abbrev pub settingsOf : ℕ → ℕ → ℕ → ℕ → ℕ → (ℕ → ℕ) → ℕ → ℕ → ℤ → ℤ → ℤ → Settings
+settingsOf regions services window halves first parents from to threshold cap floor = record {
   regions = regions;
   services = services;
   window = window;
   halves = halves;
   first = first;
   parents = tabulate 8 parents;
+  from = from;
+  to = to;
   threshold = threshold;
   cap = cap;
   floor = floor;

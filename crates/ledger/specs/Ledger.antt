@@ -22,7 +22,7 @@ use Rattle.laws.specs.Base.{pick}
 use Rattle.laws.specs.Lists.{tabulate, allBelow, anyBelow, total, lastN}
 use Rattle.pricing.specs.Verdict.{Verdict, accepted, refused}
 use Rattle.book.specs.declared.record.Settings.{Settings}
-use Rattle.book.specs.Record.{marketsOf, ringSize, isLinked, openedFrom, openedTo, isAccepted}
+use Rattle.book.specs.Record.{marketsOf, ringSize, isLinked, isAccepted}
 use Rattle.book.specs.Validity.{usedPlace}
 use Rattle.book_calls.specs.Setting.{thresholdVerdict, limitsVerdict}
 use Rattle.book_calls.specs.Report.{Numbers, nothing, reportVerdict}
@@ -30,7 +30,7 @@ use Rattle.publishing.specs.declared.Terms.{Terms}
 use Rattle.publishing.specs.Entry.{Offer, Entry}
 use Rattle.publishing.specs.Published.{tableOf, countOf}
 use Rattle.entries.specs.Checking.{Shape, entryVerdict}
-use Rattle.ledger.specs.Calls.{Call, entry, threshold, limits, report, restart, goesSecond, Answer, entered, set, reported, restarted, Step}
+use Rattle.ledger.specs.Calls.{Call, entry, threshold, limits, report, restart, Answer, entered, set, reported, restarted, Step}
 
 -- "in order, the accepted entries and settings", oldest first
 pub data Item : Type 0 where
@@ -155,8 +155,8 @@ termsAt p t = record {
   halves = p .settings .halves;
   position = positionAt p t;
   parents = p .settings .parents;
-  from = openedFrom (p .settings);
-  to = openedTo (p .settings);
+  from = p .settings .from;
+  to = p .settings .to;
   cap = capAt p t;
   floor = floorAt p t;
 }
@@ -168,7 +168,7 @@ shapeOf s = record {
   window = s .window;
   halves = s .halves;
   parents = s .parents;
-  from = openedFrom s;
+  from = s .from;
 }
 
 -- ---- the calls
@@ -199,7 +199,7 @@ imageLength second p = pick second 156 148 + 4 * (marketsOf (p .settings .servic
 
 -- "by kind 1 where 47 allows it": a book without the link goes by either kind, one with it by kind 2 alone
 abbrev pub allowed : Bool → Ledger → Bool
-allowed second p = second || not (isLinked (openedFrom (p .settings)))
+allowed second p = second || not (isLinked (p .settings .from))
 
 -- "an image stored into a long enough buffer and loaded .. into another ring of the right length .. P accepts both calls and
 -- does nothing"; "a restart goes by kind 2, or by kind 1 where 47 allows it". Of any buffer and ring: 47 for kind 1 of a book with the
@@ -231,7 +231,7 @@ play p (threshold x) = playSetting p (thresholdVerdict x) (threshold-set x)
 play p (limits c f) = playSetting p (limitsVerdict c f) (limits-set c f)
 play p (report region market) = record { state = p; answer = reported (reportOf p region market) }
 play p (restart second buffer ring) =
-    record { state = p; answer = restarted (restartVerdict (goesSecond second) p (length buffer) (length ring)) }
+    record { state = p; answer = restarted (restartVerdict second p (length buffer) (length ring)) }
 
 -- P after the opening, or with the settings of an image that stand for the opening's (specs/Demand)
 abbrev pub begin : Settings → Ledger

@@ -23,9 +23,10 @@ use Rattle.records.specs.Reading.{sizeAt, kindAt, openingSize, parentAt,
 
 -- ---- records made field by field
 pub settings-are : (c : List ℕ) (s : Settings) → s .regions ≡ numberAt c 6 1 → s .services ≡ numberAt c 7 1 → s .window ≡ numberAt c 8 2 → s .halves ≡ numberAt c 10 1
-    → s .first ≡ numberAt c 12 2 → s .parents ≡ tabulate 8 (parentAt c) → s .threshold ≡ toZ w64 (numberAt c 22 8) → s .cap ≡ toZ w32 (numberAt c 30 4)
+    → s .first ≡ numberAt c 12 2 → s .parents ≡ tabulate 8 (parentAt c) → s .from ≡ 255 → s .to ≡ 255 → s .threshold ≡ toZ w64 (numberAt c 22 8) → s .cap ≡ toZ w32 (numberAt c 30 4)
     → s .floor ≡ toZ w32 (numberAt c 34 4) → s ≡ settingsIn c
-settings-are c s r v w h f p t k o = λ i. record { regions = r i; services = v i; window = w i; halves = h i; first = f i; parents = p i; threshold = t i; cap = k i; floor = o i }
+settings-are c s r v w h f p x y t k o =
+    λ i. record { regions = r i; services = v i; window = w i; halves = h i; first = f i; parents = p i; from = x i; to = y i; threshold = t i; cap = k i; floor = o i }
 
 pub lengths-are : (c : List ℕ) (at : ℕ) (l : Lengths) → l .prices ≡ numberAt c (at + 12) 4 → l .marks ≡ numberAt c (at + 16) 4 → l .flows ≡ numberAt c (at + 20) 4
     → l .factors ≡ numberAt c (at + 24) 4 → l .schedule ≡ numberAt c (at + 28) 4 → l .table ≡ numberAt c (at + 32) 4 → l .ring ≡ numberAt c (at + 36) 4 → l ≡ lengthsAt c at

@@ -52,6 +52,8 @@ pub fn settings_in(bytes: &[u8]) -> Settings
         halves: get_u8(bytes, 10),
         first: get_u16(bytes, 12),
         parents,
+        from: 255,
+        to: 255,
         threshold: signed64(get(bytes, 22, 8)),
         cap: get_word(bytes, 30),
         floor: get_word(bytes, 34),

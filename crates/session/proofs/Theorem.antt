@@ -84,7 +84,7 @@ same s (made-threshold x r) h =
 same s (made-limits c f r) h =
     (ap (λ (o : Setting.Outcome). set (o .verdict)) h, ap (λ (o : Setting.Outcome). record { book = o .book; ring = s .ring }) h)
 same s (made-report region market r) h = (ap reported h, refl)
-same s (made-restart buffer ring w buffer′ k ring′) h = restart-same s ring w buffer′ k ring′ _ (h .0) (h .1)
+same s (made-restart second buffer ring w buffer′ k ring′) h = restart-same s ring w buffer′ k ring′ _ (h .0) (h .1)
 
 -- a whole session
 pub sessions : (l : List Made) (s : Held) → Session s l → allSaid l ≡ answers Book.play s (allCalled l)

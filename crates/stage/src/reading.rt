@@ -261,6 +261,8 @@ pub fn settings(text: &[u8], at: usize, parents_at: usize) -> Settings {
         halves: n[3],
         first: wide(n[4]),
         parents,
+        from: 255,
+        to: 255,
         threshold: threshold(text, at, 5),
         cap: z[6],
         floor: z[7],

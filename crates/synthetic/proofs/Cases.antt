@@ -8,7 +8,6 @@ use native.Mathlib.Omega.{arith}
 use Rattle.laws.specs.Lists.{run, allBelow}
 use Rattle.pricing.specs.Verdict.{accepted}
 use Rattle.book.specs.declared.record.Book.{Book}
-use Rattle.book.specs.Record.{fromOf, toOf}
 use Rattle.book.specs.Validity.{valid}
 use Rattle.publishing.specs.Entry.{entryOf}
 use Rattle.entries.specs.Entering.{enterVerdict}
@@ -25,6 +24,8 @@ sized regions services = record {
   window = 1;
   halves = 1;
   parents = replicate 8 255;
+  from = 255;
+  to = 255;
   threshold = pos 90000;
   cap = pos 60000;
   floor = negsuc 59999;
@@ -38,21 +39,21 @@ sized regions services = record {
 
 -- a region alone: energy, flow, factor
 one : made (sized 1 0) 0 0 0 ≡ intervalOf 0 0 (pos 13470 ∷ []) (0 ∷ []) (negsuc 752 ∷ []) (11708 ∷ [])
-unfolding seedAfter run fromOf
+unfolding seedAfter run
 one = refl
 
 one-last : seedAfter (draws (sized 1 0)) 0 ≡ 3519870697
-unfolding seedAfter fromOf
+unfolding seedAfter
 one-last = refl
 
 -- two regions with a service each, number 9, day kind 250: flow and factor in turn, not all flows first
 two : made (sized 2 1) 0 9 250
     ≡ intervalOf 9 250 (pos 13470 ∷ pos 256 ∷ pos 11708 ∷ pos 1769 ∷ []) (0 ∷ 0 ∷ []) (pos 158 ∷ negsuc 484 ∷ []) (10750 ∷ 11945 ∷ [])
-unfolding seedAfter run fromOf
+unfolding seedAfter run
 two = refl
 
 two-last : seedAfter (draws (sized 2 1)) 0 ≡ 2748932008
-unfolding seedAfter fromOf
+unfolding seedAfter
 two-last = refl
 
 -- the next of this seed is 0, and 0 < 64
@@ -68,5 +69,5 @@ edge = refl
 -- an entry of it is accepted: a book, a ring, a schedule and a table of which `made-enters` speaks
 taken : let v = made (sized 2 1) 0 0 1 in
     enterVerdict (sized 2 1) 4 0 (entryOf 1 (v .prices) (v .marked) (v .flows) (v .factors) (replicate 8 (pos 0))) 4 ≡ accepted
-unfolding valid fromOf toOf allBelow
+unfolding valid allBelow
 taken = made-enters (sized 2 1) 0 0 1 4 4 (replicate 8 (pos 0)) refl refl refl refl (omega arith) refl (omega arith)

@@ -1,4 +1,5 @@
--- `capi::guxhamole_store` meets its contract: it is the store. Assumes nothing.
+-- `capi::guxhamole_store` meets its contract: it is the store by kind 1. Assumes nothing.
+use mathlib.Core.Bool.{false}
 use Rattle.face.proofs.Answers.{stored-by}
 use borrow.Author.Needs.{needs}
 use Rattle.capi.proofs.guxhamole_store.Statement.{statement}
@@ -16,7 +17,7 @@ same-length c = search needs
 returns : tie.Need-returns
 returns c =
     let a = c .before .before .before .before .before .before .args in
-    stored-by (a .book) (a .ring .now) (a .image .now) (c .written-of .result) (c .written-of .ensures)
+    stored-by false (a .book) (a .ring .now) (a .image .now) (c .written-of .result) (c .written-of .ensures)
     (c .before .before .before .store-kind-1 .ensures)
 
 pub guxhamole-store-spec : {M : Type 1} → statement M

@@ -48,7 +48,7 @@ returns c =
     let s = c .before .before .before .before .before .before .before .before .before .before .before .before .before .before .before .before in
     let a = s .args in
     let t = c .before .before .before .before .before .before .before .before .take in
-    let f : SFits w64 (a .book .threshold) = sfits-of (c .before .before .before .struct-told .given .1 .1 .1 .1 .1 .0 .1) in (
+    let f : SFits w64 (a .book .threshold) = sfits-of (c .before .before .before .struct-told .given .1 .1 .1 .1 .1 .1 .1 .0 .1) in (
       after-is (a .book) (v s) (a .ring .now) (a .prices .now) (a .marked .now) _ _ _ _ _ _
           (c .before .before .before .before .before .before .before .before .before .before .last-of-day .ensures)
           (c .position-after .ensures)

@@ -4,7 +4,7 @@ use native.Mathlib.Nat.{mul-le-mul}
 use native.Mathlib.Omega.{arith}
 use lib.IntN.{pos}
 use borrow.Author.Needs.{needs}
-use Rattle.book.specs.Record.{marketsOf, tableSize, fromOf}
+use Rattle.book.specs.Record.{marketsOf, tableSize}
 use Rattle.book.proofs.Ways.{links-most}
 use Rattle.interval_entry.proofs.Ways.{front-long, energy-in, blank-is}
 use Rattle.interval_entry.proofs.take_interval.Statement.{statement}
@@ -24,7 +24,7 @@ few : (k : tie.After-link-count) → k .link-count .result ≤ 9
 few k =
     let s = k .before .before .before in
     let b = s .args .book in
-    omega (arith, k .link-count .ensures, links-most (b .regions) (fromOf b), s .pre .0)
+    omega (arith, k .link-count .ensures, links-most (b .regions) (b .from), s .pre .0)
 
 cast-regions : tie.Need-cast-regions
 cast-regions c = search needs

@@ -85,7 +85,7 @@ returns c =
     let t = o .before .before .before in
     let a = t .args in
     let price-fits : SFits w32 (a .price) = search needs in
-    let threshold-fits : SFits w64 (a .t1 .threshold) = sfits-of (c .before .struct-told .given .1 .1 .1 .1 .1 .0 .1) in
+    let threshold-fits : SFits w64 (a .t1 .threshold) = sfits-of (c .before .struct-told .given .1 .1 .1 .1 .1 .1 .1 .0 .1) in
     let n = rw (toZ-ofZ price-fits, toZ-ofZ threshold-fits) at (c .least-above .ensures .0) in
     number-is (a .t1) (a .ring .now) (a .region) (a .market) (t .pre) _ _ (a .price) (o .oldest .ensures) n
 

@@ -1,11 +1,9 @@
 -- `book::record::has_link` meets its contract: no book has the link yet. Assumes nothing.
 use mathlib.Core.Path.{refl}
-use Rattle.book.specs.Record.{fromOf}
 use Rattle.book.proofs.record.has_link.Statement.{statement}
 use Rattle.book.proofs.record.has_link.Tie as tie
 
 returns : tie.Need-returns
-unfolding fromOf
 returns c = refl
 
 pub has-link-spec : {M : Type 1} → statement M

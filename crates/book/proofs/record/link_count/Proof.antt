@@ -1,6 +1,5 @@
 -- `book::record::link_count` meets its contract: no book has the link yet. Assumes nothing.
 use borrow.Author.Needs.{needs}
-use Rattle.book.specs.Record.{fromOf}
 use Rattle.book.proofs.record.link_count.Statement.{statement}
 use Rattle.book.proofs.record.link_count.Tie as tie
 
@@ -8,7 +7,6 @@ links-with-requires : tie.Need-links-with-requires
 links-with-requires c κs = search needs
 
 returns : tie.Need-returns
-unfolding fromOf
 returns c = c .links-with .ensures
 
 pub link-count-spec : {M : Type 1} → statement M

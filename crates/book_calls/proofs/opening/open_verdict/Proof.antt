@@ -8,48 +8,59 @@ use borrow.Author.Tests.{eq-eqb, ne-eqb, not-true, not-false}
 use Rattle.pricing.specs.Holding.{limitsOk}
 use Rattle.book.specs.Record.{verdict, isAccepted}
 use Rattle.book.proofs.Ways.{is-accepted, is-refused}
+use Rattle.book_calls.specs.Opening.{settingsOk}
 use Rattle.book_calls.specs.Setting.{thresholdVerdict}
-use Rattle.book_calls.proofs.Ways.{settingsOk, ringOk, open-20, open-11, open-threshold, open-19, open-0}
+use Rattle.book_calls.proofs.Ways.{ringOk, open-20, open-11, open-threshold, open-19, open-0}
 use borrow.Author.Needs.{needs, sfits-of}
 use Rattle.book_calls.proofs.opening.open_verdict.Statement.{statement}
 use Rattle.book_calls.proofs.opening.open_verdict.Tie as tie
 
 -- what each test says of the settings and the ring's length
-settings-is : (c : tie.After-parents-ok) → (c .before .before .shape-ok .result && c .parents-ok .result) ≡ settingsOk (c .before .before .before .before .args .settings)
-settings-is c = rw (c .before .before .shape-ok .ensures, c .parents-ok .ensures)
+settings-is : (c : tie.After-parents-ok)
+    → (c .before .before .before .before .before .shape-ok .result && c .parents-ok .result && c .before .ends-ok .result) ≡ settingsOk (c .before .before .before .before .before .before .before .args .settings)
+settings-is c = rw (c .before .before .before .before .before .shape-ok .ensures, c .parents-ok .ensures, c .before .ends-ok .ensures)
 
-settled : (c : tie.Else1) → settingsOk (c .before .before .before .before .before .args .settings) ≡ true
+settled : (c : tie.Else1) → settingsOk (c .before .before .before .before .before .before .before .before .args .settings) ≡ true
 settled c = sym (settings-is (c .before)) ∙ not-false _ (c .if1 .left)
 
-sized : (c : tie.Else2) → let a = c .before .before .before .before .before .before .before .args in ringOk (a .settings) (a .ring) ≡ true
+sized : (c : tie.Else2) → let a = c .before .before .before .before .before .before .before .before .before .before .args in ringOk (a .settings) (a .ring) ≡ true
 sized c = eq-eqb _ _ (c .if2 .left ∙ c .before .ring-size .ensures)
 
 says : (c : tie.After-threshold-verdict)
     → verdict (c .threshold-verdict .result)
-    ≡ thresholdVerdict (c .before .before .before .before .before .before .before .before .before .args .settings .threshold)
+    ≡ thresholdVerdict (c .before .before .before .before .before .before .before .before .before .before .before .before .args .settings .threshold)
 says c =
-    let s = c .before .before .before .before .before .before .before .before .before .args .settings in
-    let x : SFits w64 (s .threshold) = sfits-of (c .before .struct-told .given .1 .1 .1 .1 .1 .1 .0 .1) in
+    let s = c .before .before .before .before .before .before .before .before .before .before .before .before .args .settings in
+    let x : SFits w64 (s .threshold) = sfits-of (c .before .struct-told .given .1 .1 .1 .1 .1 .1 .1 .1 .0 .1) in
     c .threshold-verdict .ensures ∙ ap thresholdVerdict (toZ-ofZ x)
 
 taken : (c : tie.After-enum-told2)
-    → isAccepted (thresholdVerdict (c .before .before .before .before .before .before .before .before .before .before .before .args .settings .threshold)) ≡ true
+    → isAccepted (thresholdVerdict (c .before .before .before .before .before .before .before .before .before .before .before .before .before .before .args .settings .threshold)) ≡ true
 taken c = ap isAccepted (is-accepted _ _ (says (c .before .before)) (c .enum-told2 .given .1))
 
 limits-is : (c : tie.After-limits-ok)
-    → let s = c .before .before .before .before .before .before .before .before .before .before .before .before .before .before .args .settings in
+    → let s = c .before .before .before .before .before .before .before .before .before .before .before .before .before .before .before .before .before .args .settings in
     c .limits-ok .result ≡ limitsOk (s .cap) (s .floor)
 limits-is c =
-    let s = c .before .before .before .before .before .before .before .before .before .before .before .before .before .before .args .settings in
-    let x : SFits w32 (s .cap) = sfits-of (c .before .before .struct-told2 .given .1 .1 .1 .1 .1 .1 .1 .0 .1) in
-    let y : SFits w32 (s .floor) = sfits-of (c .before .struct-told3 .given .1 .1 .1 .1 .1 .1 .1 .1 .0 .1) in
+    let s = c .before .before .before .before .before .before .before .before .before .before .before .before .before .before .before .before .before .args .settings in
+    let x : SFits w32 (s .cap) = sfits-of (c .before .before .struct-told2 .given .1 .1 .1 .1 .1 .1 .1 .1 .1 .0 .1) in
+    let y : SFits w32 (s .floor) = sfits-of (c .before .struct-told3 .given .1 .1 .1 .1 .1 .1 .1 .1 .1 .1 .0 .1) in
     rw (toZ-ofZ x, toZ-ofZ y) at (c .limits-ok .ensures)
 
 shape-ok-requires : tie.Need-shape-ok-requires
 shape-ok-requires c κs = search needs
 
-cast-parents-ok : tie.Need-cast-parents-ok
-cast-parents-ok c = search needs
+cast-regions : tie.Need-cast-regions
+cast-regions c = search needs
+
+cast-ends-ok : tie.Need-cast-ends-ok
+cast-ends-ok c = search needs
+
+cast-ends-ok-2 : tie.Need-cast-ends-ok-2
+cast-ends-ok-2 c = search needs
+
+ends-ok-requires : tie.Need-ends-ok-requires
+ends-ok-requires c κs = search needs
 
 parents-ok-requires : tie.Need-parents-ok-requires
 parents-ok-requires c κs = search needs
@@ -99,7 +110,10 @@ open-verdict-spec =
     tie.close
     (tie.spec
     shape-ok-requires
-    cast-parents-ok
+    cast-regions
+    cast-ends-ok
+    cast-ends-ok-2
+    ends-ok-requires
     parents-ok-requires
     returns
     ring-size-requires

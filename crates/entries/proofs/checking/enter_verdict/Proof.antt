@@ -5,7 +5,7 @@ use lib.ListN.{length}
 use mathlib.Core.Bool.{true}
 use borrow.Author.Needs.{needs}
 use borrow.Author.Tests.{not-true, not-false}
-use Rattle.book.specs.Record.{marketsOf, fromOf}
+use Rattle.book.specs.Record.{marketsOf}
 use Rattle.book.specs.Validity.{valid}
 use Rattle.book.proofs.Ways.{links-most}
 use Rattle.book.proofs.Validities.{valid-is}
@@ -77,7 +77,7 @@ slices-verdict-requires c κs =
     let s = c .before .before .before .before .before .before .before .before .before .before .before .before .before .before in
     let a = s .args in
     let q = lengths-are (a .book) (a .ring) (entry s) (a .table) (fit (c .before .before .before .before .before .before .before .before)) in
-    let most : length (a .factors .now) ≤ a .book .regions + 1 = rw (q .4) (links-most (a .book .regions) (fromOf (a .book))) in
+    let most : length (a .factors .now) ≤ a .book .regions + 1 = rw (q .4) (links-most (a .book .regions) (a .book .from)) in
     ((valid-is (a .book) (ok (c .before .before .before .before .before .before .before .before .before .before)) .regions, most, q .1), (q .2, refl))
 
 returns-6 : tie.Need-returns-6

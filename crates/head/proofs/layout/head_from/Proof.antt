@@ -1,5 +1,6 @@
 -- `head::layout::head_from` meets its contract. Assumes nothing.
 use mathlib.Core.Path.{ap, _∙_}
+use native.Mathlib.Omega.{arith}
 use mir.Syntax.{w32, w64}
 use mir.Val.{SFits, toZ}
 use mir.Facts.{toZ-ofZ}
@@ -22,6 +23,16 @@ get-eight-requires c κs = search needs
 
 read-marks-requires : tie.Need-read-marks-requires
 read-marks-requires c κs = search needs
+
+end-in-requires : tie.Need-end-in-requires
+end-in-requires c κs =
+    let s = c .before .before .before .before .before .before in
+    (s .pre .0, λ e. let long = s .pre .1 e in omega arith)
+
+end-in-requires-2 : tie.Need-end-in-requires-2
+end-in-requires-2 c κs =
+    let s = c .before .before .before .before .before .before .before in
+    (s .pre .0, λ e. let long = s .pre .1 e in omega arith)
 
 get-u8-requires : tie.Need-get-u8-requires
 get-u8-requires c κs = search needs
@@ -54,13 +65,13 @@ returns : tie.Need-returns
 returns c =
     let s = c .before .before .before .before in
     let g = s .before .before .before .before in
-    let m = g .before in
+    let m = g .before .before .before in
     let n = m .before .before in
     let w = n .before .before in
     let t : SFits w64 (s .signed64 .result) = search needs in
     let k : SFits w32 (c .before .before .before .get-word .result) = search needs in
     let f : SFits w32 (c .before .before .get-word2 .result) = search needs in
-    head-is _ _ _ _ _ _ _ _ _ _ _ _ _ _ (g .get-u8 .ensures) (s .before .before .before .get-u82 .ensures) (w .get-u16 .ensures) (s .before .before .get-u83 .ensures) (m .before .get-eight .ensures)
+    head-is _ _ _ _ _ _ _ _ _ _ _ _ _ _ _ _ (g .get-u8 .ensures) (s .before .before .before .get-u82 .ensures) (w .get-u16 .ensures) (s .before .before .get-u83 .ensures) (m .before .get-eight .ensures) (g .before .before .end-in .ensures) (g .before .end-in2 .ensures)
     (toZ-ofZ t ∙ s .signed64 .ensures ∙ ap (toZ w64) (s .before .get .ensures)) (toZ-ofZ k ∙ c .before .before .before .get-word .ensures) (toZ-ofZ f ∙ c .before .before .get-word2 .ensures)
     (c .before .get-u32 .ensures) (c .get-u162 .ensures) (n .before .read-counts .ensures) (n .next-places .ensures) (m .read-marks .ensures)
 
@@ -73,6 +84,8 @@ head-from-spec =
     next-places-requires
     get-eight-requires
     read-marks-requires
+    end-in-requires
+    end-in-requires-2
     get-u8-requires
     get-u8-requires-2
     get-u8-requires-3

@@ -4,7 +4,7 @@ use native.Mathlib.Omega.{arith}
 use Rattle.pricing.specs.Verdict.{Verdict, accepted}
 use Rattle.image.specs.Loading.{headVerdict}
 use Rattle.book.proofs.Ways.{is-accepted, is-refused}
-use Rattle.image.proofs.Ways.{head-long, head-ready, check-head, check-16, check-0}
+use Rattle.image.proofs.Ways.{head-long, head-ready, check-head, check-16, check-0, head-tailed}
 use borrow.Author.Needs.{needs}
 use Rattle.image.proofs.loading.check.Statement.{statement}
 use Rattle.image.proofs.loading.check.Tie as tie
@@ -25,7 +25,7 @@ enum-told : tie.Need-enum-told
 enum-told c = search needs
 
 head-from-requires : tie.Need-head-from-requires
-head-from-requires c κs = head-long _ (said c)
+head-from-requires c κs = head-tailed _ (said c)
 
 prices-from-requires : tie.Need-prices-from-requires
 prices-from-requires c κs = head-long _ (said (c .before))

@@ -14,20 +14,16 @@ get-u16-requires c κs = search needs
 tail-ok-requires : tie.Need-tail-ok-requires
 tail-ok-requires c κs = search needs
 
-ends-said-requires : tie.Need-ends-said-requires
-ends-said-requires c κs = search needs
-
 valid-requires : tie.Need-valid-requires
 valid-requires c κs = search needs
 
 returns : tie.Need-returns
 returns c =
-    let e = c .before in
-    let t = e .before in
+    let t = c .before in
     let z = t .before in
     let b = z .before in
     let v = c .valid .ensures ∙ ap valid (b .before .before .pre .1) in
-    rw (b .get-u8 .ensures, z .get-u16 .ensures, t .tail-ok .ensures, e .ends-said .ensures, v) refl
+    rw (b .get-u8 .ensures, z .get-u16 .ensures, t .tail-ok .ensures, v) refl
 
 pub fields-ok-spec : {M : Type 1} → statement M
-fields-ok-spec = tie.close (tie.spec get-u8-requires get-u16-requires tail-ok-requires ends-said-requires valid-requires returns)
+fields-ok-spec = tie.close (tie.spec get-u8-requires get-u16-requires tail-ok-requires valid-requires returns)

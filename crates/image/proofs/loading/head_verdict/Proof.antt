@@ -59,14 +59,17 @@ returns-4 c =
     head-25 _ (e .before .before .if1 .left) (size e) (tailed t) (sym (c .before .kind-ok .ensures) ∙ not-true _ (c .if4 .taken))
 
 head-from-requires : tie.Need-head-from-requires
-head-from-requires c κs = search needs
+head-from-requires c κs =
+    let t = c .before .before in
+    let n = t .before .before .before .before .if1 .left in
+    (n, second-long _ (tailed t))
 
 fields-ok-requires : tie.Need-fields-ok-requires
 fields-ok-requires c κs =
     let k = c .before in
     let t = k .before .before in
     let n = t .before .before .before .before .if1 .left in
-    ((n, second-long _ n (tailed t) (kind k)), c .head-from .ensures)
+    ((n, second-long _ (tailed t)), c .head-from .ensures)
 
 returns-5 : tie.Need-returns-5
 returns-5 c =

@@ -3,7 +3,7 @@ use mathlib.Core.Path.{sym, ap, _∙_}
 use lib.ListN.{length}
 use Rattle.image.specs.Loading.{ringOf}
 use Rattle.image.proofs.Verdicts.{LoadOk, ok-head}
-use Rattle.image.proofs.Ways.{head-long, head-ready, loaded-refused, load-is, loaded-accepted}
+use Rattle.image.proofs.Ways.{head-long, head-ready, loaded-refused, load-is, loaded-accepted, head-tailed}
 use borrow.Author.Needs.{needs}
 use Rattle.image.proofs.loading.load.Statement.{statement}
 use Rattle.image.proofs.loading.load.Tie as tie
@@ -24,7 +24,7 @@ enum-told-2 : tie.Need-enum-told-2
 enum-told-2 c = search needs
 
 head-from-requires : tie.Need-head-from-requires
-head-from-requires c κs = head-long _ (ok-head _ (ok c .head))
+head-from-requires c κs = head-tailed _ (ok-head _ (ok c .head))
 
 prices-from-requires : tie.Need-prices-from-requires
 prices-from-requires c κs = head-long _ (ok-head _ (ok (c .before .before) .head))

@@ -4,7 +4,7 @@ use native.Mathlib.Omega.{arith}
 use Rattle.pricing.specs.Verdict.{accepted}
 use Rattle.image.specs.Loading.{headVerdict, ringOf}
 use Rattle.book.proofs.Ways.{is-accepted, is-refused}
-use Rattle.image.proofs.Ways.{head-long, head-ready, load-head, load-11, load-16, load-0}
+use Rattle.image.proofs.Ways.{head-long, head-ready, load-head, load-11, load-16, load-0, head-tailed}
 use borrow.Author.Needs.{needs}
 use Rattle.image.proofs.loading.load_verdict.Statement.{statement}
 use Rattle.image.proofs.loading.load_verdict.Tie as tie
@@ -25,7 +25,7 @@ enum-told-2 : tie.Need-enum-told-2
 enum-told-2 c = search needs
 
 head-from-requires : tie.Need-head-from-requires
-head-from-requires c κs = head-long _ (said c)
+head-from-requires c κs = head-tailed _ (said c)
 
 ring-size-requires : tie.Need-ring-size-requires
 ring-size-requires c κs = search needs

@@ -14,20 +14,13 @@ region-length-requires c κs = search needs
 returns-2 : tie.Need-returns-2
 returns-2 c = c .region-length .ensures .0 ∙ known-region _ _ (c .before .before .if1 .left) (c .before .if2 .taken)
 
-links-known-requires : tie.Need-links-known-requires
-links-known-requires c κs = search needs
-
 returns-3 : tie.Need-returns-3
-returns-3 c =
-    let k = c .before in
-    known-link _ _ (k .before .before .if1 .left) (k .before .if2 .left) _ (k .links-known .ensures) (c .if3 .taken)
+returns-3 c = known-link _ _ (c .before .before .if1 .left) (c .before .if2 .left) (c .if3 .taken)
 
 returns-4 : tie.Need-returns-4
-returns-4 c =
-    let k = c .before in
-    known-none _ _ (k .before .before .if1 .left) (k .before .if2 .left) _ (k .links-known .ensures) (c .if3 .left)
+returns-4 c = known-none _ _ (c .before .before .if1 .left) (c .before .if2 .left) (c .if3 .left)
 
 pub known-length-spec : {M : Type 1} → statement M
 known-length-spec =
     tie.close
-    (tie.spec returns region-length-requires returns-2 links-known-requires returns-3 returns-4)
+    (tie.spec returns region-length-requires returns-2 returns-3 returns-4)

@@ -10,7 +10,6 @@ use lib.Seq.{sets}
 use Rattle.laws.specs.Base.{pick}
 use Rattle.book.specs.declared.record.Book.{Book}
 use Rattle.book.specs.Record.{marketsOf, hasLink}
-use Rattle.book.proofs.Ways.{link-known}
 use Rattle.book.proofs.Validities.{valid-is}
 use Rattle.interval_records.specs.Layout.{headLength, regionLength, linkLength, lengthFor}
 use Rattle.interval_rewriter.proofs.AnyOrder.{Given, regions-passed}
@@ -80,7 +79,7 @@ copy-records-requires c κs =
     let e = h .before .before .before in
     let a = start e .args in
     let b = a .book in
-    let passed = regions-passed (hasLink b) (link-known b) (b .regions) (marketsOf (b .services)) (a .bytes .now) (a .at) (asks e .given) in
+    let passed = regions-passed (hasLink b) (b .regions) (marketsOf (b .services)) (a .bytes .now) (a .at) (asks e .given) in
     ((few e, given e .head .room), (passed, omega (arith, asks e .long, h .copy .kept .1 .1 .1 .0)))
 
 interval-length-requires : tie.Need-interval-length-requires

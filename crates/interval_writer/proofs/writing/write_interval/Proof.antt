@@ -5,7 +5,7 @@ use Prim.Native.Nat.{ℕ, _<_}
 use native.Mathlib.Omega.{arith}
 use lib.ListN.{length}
 use Rattle.interval_records.specs.Layout.{Interval, intervalOf, intervalLength, lengthFor}
-use Rattle.book.specs.Record.{marketsOf, fromOf, hasLink, linkCount}
+use Rattle.book.specs.Record.{marketsOf, hasLink, linkCount}
 use Rattle.interval_records.proofs.InOrder.{link-fits}
 use Rattle.intervals.proofs.Lasts.{last-there}
 use Rattle.book.proofs.Ways.{links-least}
@@ -58,7 +58,7 @@ put-regions-requires c κs =
     let s = t .before .before .before .before .before .before in
     let b = s .args .book in
     let w = asks t in
-    let l = links-least (b .regions) (fromOf b) in (
+    let l = links-least (b .regions) (b .from) in (
       omega (arith, w .long, h .put-head .kept .0),
       (
         (omega (arith, prices-size b (lent s) (w .slices)), omega (arith, marked-size b (lent s) (w .slices))),

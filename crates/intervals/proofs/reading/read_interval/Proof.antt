@@ -6,11 +6,11 @@ use Prim.Native.Nat.{ℕ, _+_, _*_, _≤_, _<_}
 use native.Mathlib.Omega.{arith}
 use lib.ListN.{length}
 use Rattle.laws.specs.Bytes.{numberAt}
-use Rattle.book.specs.Record.{marketsOf, tableSize, fromOf, hasLink, linkCount, verdict, isAccepted}
+use Rattle.book.specs.Record.{marketsOf, tableSize, hasLink, linkCount, verdict, isAccepted}
 use Rattle.interval_records.specs.Layout.{Interval, headLength, regionLength, intervalLength, lengthFor, intervalOf}
 use Rattle.interval_records.specs.InOrder.{orderedVerdict}
 use Rattle.intervals.proofs.Ways.{head-room, records-room, link-room, all-room, read-lent, lengths, markets-few, read-refused}
-use Rattle.book.proofs.Ways.{link-known, links-least}
+use Rattle.book.proofs.Ways.{links-least}
 use Rattle.intervals.proofs.Lasts.{last-there}
 use Rattle.intervals.proofs.Ways.{records-accepted, read-accepted}
 use Rattle.intervals.proofs.reading.read_interval.Statement.{statement}
@@ -98,11 +98,10 @@ room : (e : tie.After-enum-told2)
     × (length (a .bytes .now) < 9223372036854775808)
 room e =
     let s = e .before .before .before .before .before .before .before .before .before .before in
-    let a = s .args in
-    let known = link-known (a .book) in (
-      head-room (hasLink (a .book)) known (a .book .regions) (marketsOf (a .book .services)) (a .bytes .now) (a .at) (accepts e),
-      records-room (hasLink (a .book)) known (a .book .regions) (marketsOf (a .book .services)) (a .bytes .now) (a .at) (accepts e),
-      all-room (hasLink (a .book)) known (a .book .regions) (marketsOf (a .book .services)) (a .bytes .now) (a .at) (accepts e),
+    let a = s .args in (
+      head-room (hasLink (a .book)) (a .book .regions) (marketsOf (a .book .services)) (a .bytes .now) (a .at) (accepts e),
+      records-room (hasLink (a .book)) (a .book .regions) (marketsOf (a .book .services)) (a .bytes .now) (a .at) (accepts e),
+      all-room (hasLink (a .book)) (a .book .regions) (marketsOf (a .book .services)) (a .bytes .now) (a .at) (accepts e),
       omega (arith, s .good .1 .0),
     )
 
@@ -131,7 +130,7 @@ read-regions-requires c κs =
     let e = c .before .before .before .before .before .before in
     let b = e .before .before .before .before .before .before .before .before .before .before .args .book in
     let l = sizes e .0 in
-    let most = links-least (b .regions) (fromOf b) in
+    let most = links-least (b .regions) (b .from) in
     ((sizes e .1, room e .1), ((l .0, omega (arith, l .1)), (omega (arith, l .2, most), omega (arith, l .3, most))))
 
 -- where they stand: before the additional link is read
@@ -150,7 +149,7 @@ read-link-requires c κs =
     let k = g .read-regions .kept .1 .1 .1 .1 .1 .1 in
     let l = sizes e .0 in
     let there : (n : ℕ) → n ≡ linkCount (a .book) → hasLink (a .book) ≡ true → a .book .regions < n = last-there (hasLink (a .book)) (a .book .regions) in (
-      (λ t. link-room (hasLink (a .book)) (link-known (a .book)) (a .book .regions) (marketsOf (a .book .services)) (a .bytes .now) (a .at) (accepts e) (sym has ∙ t)),
+      (λ t. link-room (hasLink (a .book)) (a .book .regions) (marketsOf (a .book .services)) (a .bytes .now) (a .at) (accepts e) (sym has ∙ t)),
       ((λ t. (there _ (k .0 ∙ l .2) (sym has ∙ t), there _ (k .1 .0 ∙ l .3) (sym has ∙ t))), sizes e .1),
     )
 

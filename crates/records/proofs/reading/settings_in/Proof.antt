@@ -1,5 +1,5 @@
 -- `records::reading::settings_in` meets its contract. Assumes nothing.
-use mathlib.Core.Path.{ap, _∙_}
+use mathlib.Core.Path.{refl, ap, _∙_}
 use mir.Syntax.{w32, w64}
 use mir.Val.{SFits, toZ}
 use mir.Facts.{toZ-ofZ}
@@ -51,7 +51,7 @@ returns c =
     let ft : SFits w64 (t .signed64 .result) = search needs in
     let fk : SFits w32 (k .get-word .result) = search needs in
     let fo : SFits w32 (c .get-word2 .result) = search needs in
-    settings-are _ _ (r .get-u8 .ensures) (s .get-u82 .ensures) (w .get-u16 .ensures) (h .get-u83 .ensures) (f .get-u162 .ensures) (r .before .get-eight .ensures)
+    settings-are _ _ (r .get-u8 .ensures) (s .get-u82 .ensures) (w .get-u16 .ensures) (h .get-u83 .ensures) (f .get-u162 .ensures) (r .before .get-eight .ensures) refl refl
     (toZ-ofZ ft ∙ t .signed64 .ensures ∙ ap (toZ w64) (g .get .ensures)) (toZ-ofZ fk ∙ k .get-word .ensures) (toZ-ofZ fo ∙ c .get-word2 .ensures)
 
 pub settings-in-spec : {M : Type 1} → statement M
