@@ -2,7 +2,7 @@
 //   p m f l s  the prices, marks, flows, loss factors and the schedule that entries are lent from here on
 //   w          with these parents books are opened from here on (255 where none is given)
 //   a          a ring of so many places is lent from here on
-//   o          open a book: R, S, W, H, first position, threshold, cap, floor
+//   o          open a book: R, S, W, H, first position, threshold, cap, floor and, where there is one, the ends of the additional link
 //   i          begin with an image of a book with these settings and without entries: its threshold may be one that no opening takes
 //   e          an entry: number, day kind
 //   t c        set the threshold; cap and floor
@@ -21,7 +21,7 @@ use book_calls::setting::set_threshold;
 use codec::bits32;
 use entries::enter;
 use image::loading::load;
-use image::storing::store_kind_1;
+use image::storing::store_kind_2;
 use planning::Left;
 use planning::intervals_left;
 use stage::printing::amount;
@@ -79,11 +79,11 @@ fn imaged(settings: Settings, ring: &mut [i32], image: &mut [u8]) {
     let o = open(open_with, ring);
     let mut book = o.book;
     book.threshold = settings.threshold;
-    store_kind_1(book, ring, image);
+    store_kind_2(book, ring, image);
 }
 
 fn loaded(ring: &mut [i32], text: &[u8], at: usize, parents_at: usize) -> Book {
-    let mut image = [0u8; 148];
+    let mut image = [0u8; 156];
     imaged(settings(text, at, parents_at), ring, &mut image);
     let l = load(&image, ring);
     let answer = l.answer;
@@ -96,8 +96,8 @@ fn entered(book: Book, ring: &mut [i32], text: &[u8], at: usize, lent: [usize; 8
     let mut n = [0u32; 2];
     let mut prices = [0i32; 16];
     let mut marks = [0u8; 8];
-    let mut flows = [0i32; 8];
-    let mut factors = [0u32; 8];
+    let mut flows = [0i32; 9];
+    let mut factors = [0u32; 9];
     let mut schedule = [0i32; 32];
     numbers(text, at, &mut n);
     let p = signed_numbers(text, lent[0], &mut prices);

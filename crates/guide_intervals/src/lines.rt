@@ -67,7 +67,7 @@ fn told(found: Found) {
 // A read into what the lines say, and what they then hold.
 fn taken(book: Book, records: &[u8], n: usize, text: &[u8], at: usize, lent: [usize; 8]) -> Book {
     let mut prices = [0i32; 8];
-    let mut marks = [0u8; 64];
+    let mut marks = [0u8; 80];
     let mut flows = [0i32; 8];
     let mut factors = [0u32; 8];
     let p = signed_numbers(text, lent[0], &mut prices);
@@ -106,10 +106,10 @@ fn sized(size: Size) {
 fn put(book: Book, text: &[u8], at: usize, lent: [usize; 8]) -> Book {
     let mut n = [0u32; 3];
     let mut prices = [0i32; 8];
-    let mut marks = [0u8; 64];
+    let mut marks = [0u8; 80];
     let mut flows = [0i32; 8];
     let mut factors = [0u32; 8];
-    let mut buffer = [7u8; 64];
+    let mut buffer = [7u8; 80];
     numbers(text, at, &mut n);
     let p = signed_numbers(text, lent[0], &mut prices);
     let m = bytes(text, lent[1], &mut marks);
@@ -153,7 +153,7 @@ fn told_draw(draw: Draw) {
 fn drawn(book: Book, text: &[u8], at: usize, lent: [usize; 8]) -> Book {
     let mut n = [0u32; 3];
     let mut prices = [0i32; 8];
-    let mut marks = [0u8; 64];
+    let mut marks = [0u8; 80];
     let mut flows = [0i32; 8];
     let mut factors = [0u32; 8];
     numbers(text, at, &mut n);

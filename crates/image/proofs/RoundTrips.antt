@@ -19,7 +19,7 @@ use Rattle.book_calls.specs.Report.{reportOf}
 use Rattle.book.proofs.Validities.{is-valid}
 use Rattle.head.specs.Counted.{countAt, inOrder}
 use Rattle.head.specs.Layout.{kindOf, lengthOf, isSecond, headFrom, imageOf}
-use Rattle.image.specs.Storing.{pricesOk, stored}
+use Rattle.image.specs.Storing.{pricesOk, kindTells, stored}
 use Rattle.image.specs.Loading.{ringOf, loadVerdict, bookFrom, ringFrom, loaded, checked}
 use Rattle.image.specs.Same.{Same}
 use Rattle.image.proofs.Typed.{Typed}
@@ -28,7 +28,7 @@ use Rattle.image.proofs.Markets.{count-of}
 use Rattle.image.proofs.Verdicts.{StoreOk, LoadOk, loaded-ok, ok-loaded, stored-ok, ok-stored, other-ring}
 use Rattle.image.proofs.Prices.{laid, length-laid}
 use Rattle.image.proofs.Anew.{order-anew, valid-anew}
-use Rattle.image.proofs.There.{valid-from, prices-from, ring-size-from, typed-from, length-from, from-is, store-from, there}
+use Rattle.image.proofs.There.{valid-from, prices-from, ring-size-from, typed-from, length-from, from-is, store-by, store-from, book-stays, ring-stays, there}
 use Rattle.image.proofs.Lengths.{head-length, length-image}
 use Rattle.image.proofs.Back.{load-back, book-back, ring-back, head-is}
 use Rattle.image.proofs.Sameness as sameness
@@ -141,6 +141,19 @@ module _ (bytes : List ℕ) (ring : List ℤ) (e : isAccepted (loaded bytes ring
   -- a book loaded from kind 1 has no link, so that it "can be stored back to the very kind 1 image": 47 does not occur
   pub loaded-first : isSecond bytes ≡ false → hasLink (bookFrom bytes) ≡ false
   loaded-first k = rw (from-is bytes (length ring) good, k)
+
+  -- stored by either kind that tells it, its own or the other, it loads to the very same book and ring: so what an image of kind 2
+  -- has without the link can be handed on by kind 1, and what one of kind 1 has by kind 2
+  pub by-either-kind : (second : Bool) → kindTells second (bookFrom bytes) ≡ true → (buffer : List ℕ)
+      → lengthOf second (bookFrom bytes) ≤ length buffer
+      → (g : List ℤ) → length g ≡ ringSize (bookFrom bytes .regions) (bookFrom bytes .services) (bookFrom bytes .window)
+      → loaded (take (lengthOf second (bookFrom bytes)) (stored second (bookFrom bytes) (ringFrom bytes) buffer .buffer)) g ≡ loaded bytes ring
+  by-either-kind second t buffer h g k =
+      let n = length ring in
+      let s = ok-stored second (bookFrom bytes) (ringFrom bytes) buffer (store-by bytes n good second t (length buffer) h) in
+      load-of-store second (bookFrom bytes) (ringFrom bytes) buffer (typed-from bytes n good) (rw s refl) g k
+      ∙ (λ i. record { verdict = accepted; book = book-stays bytes n good i; ring = ring-stays bytes n good i })
+      ∙ sym loaded-is
 
   -- 3. a book just loaded is accepted by rule 10, its ring has its length, it never meets 22, and its arrays have their lengths
   pub loaded-valid : valid (bookFrom bytes) ≡ true

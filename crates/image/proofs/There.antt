@@ -23,7 +23,7 @@ use Rattle.head.specs.Counted.{marketCount, countAt, inOrder, counted}
 use Rattle.head.specs.Layout.{widths, kindOf, headSize, lengthOf, values, tailWidths, tail, tailOf, imageOf, isSecond, fromIn, toIn, bookOf, headFrom}
 use Rattle.image.specs.Storing.{pricesOk, kindTells}
 use Rattle.image.specs.Loading.{bookFrom, ringFrom}
-use Rattle.image.proofs.Readings.{before, start, pricesAt, goodAt, windows-whole, sums-whole, bytes-whole, all-good-whole}
+use Rattle.image.proofs.Readings.{padded, before, start, pricesAt, goodAt, windows-whole, sums-whole, bytes-whole, all-good-whole}
 use Rattle.image.proofs.Markets.{price-size, count-of, at-below, marketAt, prices-are, placed, placed-length, placed-at, placed-used, placed-unused}
 use Rattle.head.proofs.Heads.{widths-length, field-at}
 use Rattle.head.proofs.Tails.{head-within}
@@ -153,8 +153,23 @@ module _ (l : List ℕ) (n : ℕ) (ok : LoadOk l n) where
       go true = refl
       go false = refl
 
+  -- it can be stored by each kind that tells it
+  pub store-by : (second : Bool) → kindTells second (bookFrom l) ≡ true → (room : ℕ) → lengthOf second (bookFrom l) ≤ room
+      → StoreOk second (bookFrom l) (ringFrom l) room
+  store-by second t room h = record { book = valid-from; ring-size = ring-size-from; prices = prices-from; tells = t; room = h }
+
   pub store-from : (room : ℕ) → length l ≤ room → StoreOk (isSecond l) (bookFrom l) (ringFrom l) room
-  store-from room h = record { book = valid-from; ring-size = ring-size-from; prices = prices-from; tells = tells-from; room = omega (arith, length-from) }
+  store-from room h = store-by (isSecond l) tells-from room (omega (arith, length-from))
+
+  -- loading leaves nothing to be laid out anew
+  pub book-stays : anewWith (bookFrom l) (bookFrom l .sums) ≡ bookFrom l
+  book-stays = rw book-is refl
+
+  pub ring-stays : laid (bookFrom l) (inOrder (bookFrom l) (ringFrom l)) ≡ ringFrom l
+  ring-stays =
+      rw book-is
+      (joined-same _ _ (marketCount (headFrom l)) 0 (λ q x y. ap (padded (headFrom l .window)) (order-is (sumsRead l) q (omega arith))))
+      ∙ sym ring-is
 
   counted-is : counted (bookFrom l) (ringFrom l) ≡ joined (marketCount (headFrom l)) 0 (pricesAt first (headFrom l) l)
   counted-is = rw book-is (joined-same _ _ (marketCount (headFrom l)) 0 (λ q x y. order-is (sumsRead l) q (omega arith)))

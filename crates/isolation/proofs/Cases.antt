@@ -1,7 +1,7 @@
 -- Pairs of books with their calls, computed: some tell region 1 the same, whose reports are then the same; the others show what happens where
 -- a hypothesis of `Isolation` fails. `everything` and `otherwise` have calls of every kind, and the theorem is applied to them. Assumes nothing.
 use mathlib.Core.Path.{_≡_, refl, sym, ap, _∙_}
-use mathlib.Core.Bool.{false}
+use mathlib.Core.Bool.{true, false}
 use mathlib.Core.List.{List, [], _∷_, _++_}
 use Prim.Native.Nat.{ℕ, zero, suc, _<_}
 use native.Mathlib.Omega.{arith}
@@ -30,7 +30,7 @@ use Rattle.publishing.specs.Effective.{scheduled, effective}
 use Rattle.publishing.specs.Capped.{anyAdministered, cappedBy}
 use Rattle.publishing.specs.Bounds.{hasLimit, inCents, limit, atMost, atLeast}
 use Rattle.publishing.specs.Published.{published}
-use Rattle.head.specs.Layout.{widths, firsts, seconds, values, imageOf, bookOf}
+use Rattle.head.specs.Layout.{tail, tailWidths, widths, firsts, seconds, values, imageOf, bookOf}
 use Rattle.image.specs.Storing.{storeVerdict, stored}
 use Rattle.image.specs.Loading.{headVerdict, badFrom, loadVerdict, windowsFrom, sumsFrom, bookFrom, ringFrom, loaded}
 use Rattle.entries.specs.Checking.{entryVerdict}
@@ -152,7 +152,8 @@ fifty = record {
 }
 
 -- ---- `everything` and `otherwise`: calls of every kind, with all that may differ. Both have S 1, W 2, H 1, first position 4 and threshold
--- 90,000; the one is opened, with two regions and limits ±60,000, the other loaded from an image, with three in a row and limits 10 and −10
+-- 90,000; the one is opened, with two regions and limits ±60,000, and restarts by kind 1; the other is loaded from an image, with three
+-- regions in a ring and limits 10 and −10, and restarts by kind 2, since it has the additional link
 -- an entry into the one: number, prices and region 1's mark
 abbrev of-two : ℕ → List ℤ → ℕ → Call
 of-two number prices mark =
@@ -164,7 +165,7 @@ of-two number prices mark =
 abbrev of-three : ℕ → List ℤ → ℕ → Call
 of-three number prices mark =
     entry (replicate 12 (pos 0)) number
-    (entryOf 1 prices (1 ∷ mark ∷ 0 ∷ []) (pos 0 ∷ negsuc 0 ∷ pos 6 ∷ []) (10000 ∷ 10500 ∷ 20000 ∷ []) (replicate 12 (pos 8)))
+    (entryOf 1 prices (1 ∷ mark ∷ 0 ∷ []) (pos 0 ∷ negsuc 0 ∷ pos 6 ∷ pos 1 ∷ []) (10000 ∷ 10500 ∷ 20000 ∷ 10000 ∷ []) (replicate 12 (pos 8)))
     (replicate 6 (pos 1))
 
 abbrev everything : Side
@@ -190,7 +191,7 @@ abbrev otherwise : Side
 otherwise = record {
   start =
       loads
-      (imageOf false (fresh (settingsOf 3 1 2 1 4 (λ r. getD (255 ∷ 0 ∷ 1 ∷ []) r 255) 255 255 (pos 90000) (pos 10) (negsuc 9))) [])
+      (imageOf true (fresh (settingsOf 3 1 2 1 4 (λ r. getD (255 ∷ 0 ∷ 1 ∷ []) r 255) 2 0 (pos 90000) (pos 10) (negsuc 9))) [])
       (replicate 12 (negsuc 7));
   calls =
       of-three 0 (pos 0 ∷ pos 0 ∷ pos 70000 ∷ pos 95000 ∷ pos 100000 ∷ pos 2 ∷ []) 0
@@ -199,11 +200,11 @@ otherwise = record {
       ∷ limits (pos 30000) (negsuc 0)
       ∷ of-three 1 (pos 0 ∷ pos 0 ∷ negsuc 2147483647 ∷ negsuc 0 ∷ pos 100000 ∷ pos 2 ∷ []) 1
       ∷ threshold (pos 150000)
-      ∷ restart false (replicate 300 0) (replicate 12 (pos 4))
+      ∷ restart true (replicate 300 0) (replicate 12 (pos 4))
       ∷ report 2 1
       ∷ of-three 2 (pos 0 ∷ pos 0 ∷ pos 80000 ∷ pos 5 ∷ negsuc 8 ∷ pos 2 ∷ []) 0
-      -- refused: 11
-      ∷ restart false (replicate 300 0) (replicate 11 (pos 4))
+      -- refused: 47
+      ∷ restart false (replicate 300 0) (replicate 12 (pos 4))
       ∷ of-three 3 (pos 0 ∷ pos 0 ∷ pos 90000 ∷ pos 5 ∷ negsuc 8 ∷ pos 2 ∷ []) 0 ∷ [];
 }
 
@@ -264,7 +265,7 @@ record Computed : Type 0 where
   mark : figures marked ≡ are (of-suspension ∷ []) (row (pos 0) 0 0 ∷ [])
 
 computed : Computed
-unfolding heard reportsOn answers play opened openVerdict valid Entering.entered entryVerdict setThreshold setLimits thresholdVerdict limitsVerdict run firstOf countBelow allBelow anyBelow total reportOf reportVerdict published effective scheduled cappedBy anyAdministered hasLimit limit atMost atLeast extraOf powerOf tighter over Routes.limitOf Routes.overAll Routes.routesFrom Routes.along Routes.joined Routes.after minZ maxZ held carried cents inCents rounded nearest stored storeVerdict imageOf values firsts seconds words widths encode le joined sumFrom loaded loadVerdict headVerdict numberAt number decode bookOf badFrom bookFrom ringFrom windowsFrom sumsFrom
+unfolding heard reportsOn answers play opened openVerdict valid Entering.entered entryVerdict setThreshold setLimits thresholdVerdict limitsVerdict run firstOf countBelow allBelow anyBelow total reportOf reportVerdict published effective scheduled cappedBy anyAdministered hasLimit limit atMost atLeast extraOf powerOf tighter over Routes.limitOf Routes.overAll Routes.routesFrom Routes.along Routes.joined Routes.after minZ maxZ held carried cents inCents rounded nearest stored storeVerdict imageOf tail tailWidths values firsts seconds words widths encode le joined sumFrom loaded loadVerdict headVerdict numberAt number decode bookOf badFrom bookFrom ringFrom windowsFrom sumsFrom
 computed = record {
   travel = (refl, refl);
   energies = (refl, refl);
@@ -284,13 +285,13 @@ unfolding opened openVerdict thresholdVerdict run allBelow
 everything-begins = record { accepted = refl; fit = refl }
 
 otherwise-begins : Begins (otherwise .start)
-unfolding valid run firstOf allBelow imageOf values firsts seconds words widths encode le joined sumFrom loaded loadVerdict headVerdict numberAt number decode bookOf badFrom bookFrom ringFrom windowsFrom sumsFrom total
+unfolding valid run firstOf allBelow imageOf tail tailWidths values firsts seconds words widths encode le joined sumFrom loaded loadVerdict headVerdict numberAt number decode bookOf badFrom bookFrom ringFrom windowsFrom sumsFrom total
 otherwise-begins = record { accepted = refl; fit = record { entries = refl; marks = refl } }
 
 pub everything-isolated : (n market : ℕ) → Reported-alike
     (bookAfter (everything .start) (everything .calls) n)
     (bookAfter (otherwise .start) (otherwise .calls) n) 1 1 market
-unfolding valid run firstOf allBelow imageOf values firsts seconds words widths encode le joined sumFrom loaded loadVerdict headVerdict numberAt number decode bookOf badFrom bookFrom ringFrom windowsFrom sumsFrom total
+unfolding valid run firstOf allBelow imageOf tail tailWidths values firsts seconds words widths encode le joined sumFrom loaded loadVerdict headVerdict numberAt number decode bookOf badFrom bookFrom ringFrom windowsFrom sumsFrom total
 everything-isolated =
     isolation (everything .start) (otherwise .start) (everything .calls) (otherwise .calls) 1
     everything-begins otherwise-begins

@@ -7,10 +7,10 @@
 -- entries, with the same mark of a region r and, where it is unmarked, the same entry prices of r. Then after every so many calls a
 -- report of each market of r is the same from both books: sum, prices counted, period mark, entries taken.
 --
--- All else may differ: how many regions there are, parents, cap and floor; other regions' prices and marks; the prices of r while it is
--- marked; flows, factors, day kinds, schedules and tables; the limits set; what reports ask for; buffers and rings, at the beginning and
--- at restarts; and of refused calls everything, their kinds and refusals too; one book may be opened and the other loaded. What is
--- published may differ as well, since limits travel.
+-- All else may differ: how many regions there are, parents, the additional link, cap and floor; other regions' prices and marks; the prices
+-- of r while it is marked; flows, factors, day kinds, schedules and tables; the limits set; what reports ask for; buffers and rings, at the
+-- beginning and at restarts, and the kind of image that these go by; and of refused calls everything, their kinds and refusals too; one
+-- book may be opened and the other loaded. What is published may differ as well, since limits travel.
 --
 -- Three machines that it rules out; proofs/Cases has two books of which each machine would report differently:
 --   one whose sums take the published energy price, which a neighbour's limit holds (`travels` and `stays`);

@@ -17,5 +17,6 @@ pub mod Theorem
 pub mod Corollaries
 pub mod Cases
 pub mod Chains
+pub mod Rings
 pub mod Run
 pub mod Full

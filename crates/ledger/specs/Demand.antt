@@ -1,12 +1,12 @@
 -- DEMAND 3, the one theorem over whole lists of calls: read this file first. `proofs/Theorem` proves `Demand-3`. Assumes nothing.
 --
--- In words: open a book with any settings over any ring, or load an image of a book without entries and with no period marked into any
--- ring. If that call is accepted, then for every list L of calls (entries, threshold and limit settings, reports and restarts, with any
--- arguments, refused ones too) the answers of the book, each call on the book and ring that the one before left, are exactly the answers
--- of the ledger machine P, which keeps the whole history and no sum: acceptance, or the refusal with its place; an entry's count and
--- published table; a report's four numbers. P begins with the settings of the opening, or with those of the image in their place. After
--- L a report of every region and market is P's. And a market's period mark is 1 exactly when some accepted entry triggered it and none
--- from that one on released it.
+-- In words: open a book with any settings, the additional link among them, over any ring, or load an image of either kind of a book without
+-- entries and with no period marked into any ring. If that call is accepted, then for every list L of calls (entries, threshold and limit
+-- settings, reports and restarts by either kind of image, with any arguments, refused ones too) the answers of the book, each call on the
+-- book and ring that the one before left, are exactly the answers of the ledger machine P, which keeps the whole history and no sum:
+-- acceptance, or the refusal with its place; an entry's count and published table; a report's four numbers. P begins with the settings of
+-- the opening, or with those of the image in their place. After L a report of every region and market is P's. And a market's period mark
+-- is 1 exactly when some accepted entry triggered it and none from that one on released it.
 --
 -- An opening takes a threshold in whole hundreds of dollars alone (44), a load any in range: so a book may begin with one that no opening
 -- and no setting takes, as document 01's worked books do, and it stays until the next setting (request 2026-06).

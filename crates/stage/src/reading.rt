@@ -246,12 +246,14 @@ pub fn within(n: usize, list: &[i32]) -> usize
     if n < list.len() { n } else { list.len() }
 }
 
-// The settings in a line, with the parents in another.
+// The settings in a line, with the parents in another; the ends of the additional link may follow the floor.
 pub fn settings(text: &[u8], at: usize, parents_at: usize) -> Settings {
     let mut n = [0u8; 8];
     let mut z = [0i32; 8];
     let mut parents = [255u8; 8];
+    let mut ends = [255u8; 10];
     bytes(text, at, &mut n);
+    bytes(text, at, &mut ends);
     signed_numbers(text, at, &mut z);
     bytes(text, parents_at, &mut parents);
     Settings {
@@ -261,8 +263,8 @@ pub fn settings(text: &[u8], at: usize, parents_at: usize) -> Settings {
         halves: n[3],
         first: wide(n[4]),
         parents,
-        from: 255,
-        to: 255,
+        from: ends[8],
+        to: ends[9],
         threshold: threshold(text, at, 5),
         cap: z[6],
         floor: z[7],

@@ -66,10 +66,10 @@ fn wide_byte(b: u8) -> u64 {
 }
 
 // The first bytes of a list, as whole numbers.
-pub fn byte_list(name: &[u8], list: &[u8; 64], places: usize) {
+pub fn byte_list(name: &[u8], list: &[u8; 80], places: usize) {
     say(name);
     let mut k: usize = 0;
-    while k < 64 {
+    while k < 80 {
         if k < places {
             number(wide_byte(list[k]));
         }

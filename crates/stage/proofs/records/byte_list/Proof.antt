@@ -5,10 +5,10 @@ use Rattle.stage.proofs.records.byte_list.Statement.{statement}
 use Rattle.stage.proofs.records.byte_list.Tie as tie
 
 abbrev Inv-loop : tie.InvT-loop
-Inv-loop name list places k₀ k = k ≤ 64
+Inv-loop name list places k₀ k = k ≤ 80
 
 abbrev μ-loop : tie.MeasureT-loop
-μ-loop name list places k₀ k = 64 - k
+μ-loop name list places k₀ k = 80 - k
 
 say-requires : tie.Need-say-requires Inv-loop μ-loop
 say-requires c κs = search needs
