@@ -1,6 +1,6 @@
 // Plays a text line by line. A line's first letter says what it is, and the numbers in it are what it is about:
 //   w          with these parents books are opened from here on (255 where none is given)
-//   o c        open a book: R, S, W, H, first position, threshold, cap, floor; close it
+//   o c        open a book: R, S, W, H, first position, threshold, cap, floor, and the ends of the link where there is one; close it
 //   f          make of the book one that others changed: entries taken, and of the first region prices counted and energy's sum
 //   n a        new records, and bytes after those that are there, a number a byte
 //   i e p m    the numbers, kilowatt-hours, prices and amounts of the bill's lines from here on

@@ -2,7 +2,7 @@
 //   p m f l s  the prices, marks, flows, loss factors and the schedule that entries are lent from here on
 //   w          with these parents books are opened from here on (255 where none is given)
 //   a          a ring of so many places is lent from here on
-//   o          open a book: R, S, W, H, first position, threshold, cap, floor and, where there is one, the ends of the additional link
+//   o          open a book: R, S, W, H, first position, threshold, cap, floor, and the ends of the link where there is one
 //   i          begin with an image of a book with these settings and without entries: its threshold may be one that no opening takes
 //   e          an entry: number, day kind
 //   t c        set the threshold; cap and floor

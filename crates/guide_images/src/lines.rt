@@ -1,6 +1,6 @@
 // Plays a text line by line. A line's first letter says what it is, and the numbers in it are what it is about:
 //   w          with these parents books are opened from here on (255 where none is given)
-//   o          open a book: R, S, W, H, first position, threshold, cap, floor and, where there is one, the ends of the additional link
+//   o          open a book: R, S, W, H, first position, threshold, cap, floor, and the ends of the link where there is one
 //   p f        the prices and factors that entries are lent from here on; each link's flow is 1, and no region is marked
 //   e          an entry: number
 //   s          store by kind 1 or 2 into so many bytes

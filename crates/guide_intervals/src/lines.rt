@@ -1,7 +1,7 @@
 // Plays a text line by line. A line's first letter says what it is, and the numbers in it are what it is about:
 //   p m f l    the prices, marks, flows and loss factors that calls are lent from here on
 //   w          with these parents books are opened from here on (255 where none is given)
-//   o c        open a book: R, S, W, H, first position, threshold, cap, floor; close it
+//   o c        open a book: R, S, W, H, first position, threshold, cap, floor, and the ends of the link where there is one; close it
 //   n a        new records, and bytes after those that are there, a number a byte
 //   r          read the interval at a place; -1 is the last of all places
 //   i          write an interval: number, day kind, room in the buffer, which holds sevens

@@ -1,6 +1,6 @@
 // Plays a text line by line. A line's first letter says what it is, and the numbers in it are what it is about:
 //   w          with these parents books are opened from here on (255 where none is given)
-//   o c        open a book: R, S, W, H, first position, threshold, cap, floor and, where there is one, the ends of the additional link; close it
+//   o c        open a book: R, S, W, H, first position, threshold, cap, floor, and the ends of the link where there is one; close it
 //   n a        new records, and bytes after those that are there, a number a byte
 //   t          take the interval at a place (-1 is the last of all places) and rewrite it into so many bytes, which hold sevens
 //   =          a heading to print; lines that begin with anything else are for the reader
