@@ -3,10 +3,10 @@
 -- others. Assumes nothing.
 use mathlib.Core.Path.{_≡_, refl}
 use mathlib.Core.Bool.{Bool, true, false}
-use mathlib.Core.List.{List, [], _∷_, _++_}
+use mathlib.Core.List.{List, [], _∷_}
 use Prim.Native.Nat.{ℕ}
 use lib.IntN.{ℤ, pos, negsuc}
-use lib.ListN.{length, getD, replicate}
+use lib.ListN.{getD, replicate}
 use Rattle.laws.specs.Base.{minZ, maxZ}
 use Rattle.laws.specs.Lists.{run, allBelow, anyBelow, countBelow, firstOf, total, lastN, joined, sumFrom}
 use Rattle.laws.specs.Bytes.{le, number, numberAt, encode, decode, words}
@@ -15,7 +15,6 @@ use Rattle.pricing.specs.Rounding.{nearest, rounded}
 use Rattle.pricing.specs.Holding.{held}
 use Rattle.pricing.specs.Carrying.{carried}
 use Rattle.pricing.specs.Passing.{cents}
-use Rattle.book.specs.declared.record.Settings.{Settings}
 use Rattle.book.specs.Validity.{valid}
 use Rattle.book_calls.specs.Opening as Opening
 use Rattle.book_calls.specs.Opening.{fresh}

@@ -5,9 +5,9 @@
 -- DEMAND 3 alone would not show a mistake in them; what guards them besides:
 --   refusals after 10: `entryVerdict` (over `Shape`), `thresholdVerdict`, `limitsVerdict`, `reportVerdict`: the literal answers of proofs/Run
 --   (12: proofs/Full), the program guide_books, must-fail edits of entries, book and book_calls
---   steps 1 to 4: `tableOf` and `countOf` over `Terms` and `Entry`: the literal tables of proofs/Cases, Chains (limits over links) and Run,
---   the programs guide and guide_books, must-fail edits of publishing and routes
---   sizes and places: `marketsOf`, `ringSize`, `usedPlace`: the same lists and programs, must-fail edits of book
+--   steps 1 to 4: `tableOf` and `countOf` over `Terms` and `Entry`: the literal tables of proofs/Cases, Chains (limits over links), Rings
+--   (over the additional one) and Run, the programs guide and guide_books, must-fail edits of publishing and routes
+--   sizes and places: `marketsOf`, `ringSize`, `usedPlace`, `isLinked`: the same lists and programs, must-fail edits of book
 --   forms alone: `Settings`, `Verdict`, `Numbers` with `nothing`, `isAccepted`, the calls and answers of Calls, and the lists of laws
 -- All of them are compared with the independent ledger of host/rust, which shares no definition.
 use mathlib.Core.Path.{_≡_}

@@ -1,4 +1,4 @@
--- `book::record::has_link` meets its contract: no book has the link yet. Assumes nothing.
+-- `book::record::has_link` meets its contract: the first end is a region. Assumes nothing.
 use mathlib.Core.Path.{refl}
 use Rattle.book.proofs.record.has_link.Statement.{statement}
 use Rattle.book.proofs.record.has_link.Tie as tie

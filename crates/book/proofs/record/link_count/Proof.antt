@@ -1,4 +1,4 @@
--- `book::record::link_count` meets its contract: no book has the link yet. Assumes nothing.
+-- `book::record::link_count` meets its contract: it is that of the book's regions and first end. Assumes nothing.
 use borrow.Author.Needs.{needs}
 use Rattle.book.proofs.record.link_count.Statement.{statement}
 use Rattle.book.proofs.record.link_count.Tie as tie

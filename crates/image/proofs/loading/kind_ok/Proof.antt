@@ -1,6 +1,6 @@
 -- `image::loading::kind_ok` meets its contract. Assumes nothing.
 use mathlib.Core.Path.{ap₂}
-use mathlib.Core.Bool.{Bool, _&&_, _||_}
+use mathlib.Core.Bool.{Bool, _||_}
 use Prim.Native.Nat.{ℕ}
 use lib.Dec.{eqb}
 use borrow.Author.Needs.{needs}

@@ -1,6 +1,5 @@
 -- `image::loading::lacks_tail` meets its contract. Assumes nothing.
 use mathlib.Core.Path.{ap}
-use mathlib.Core.Bool.{_&&_}
 use Prim.Native.Nat.{ℕ}
 use lib.Dec.{ltb}
 use lib.ListN.{length}
