@@ -6,6 +6,7 @@
     print(book.report(0, 0))        # Report(sum=8500, counted=1, administered=False, entries=1)
     left = book.intervals_left(0, 0, 30_000)  # 67 more of this price exceed the threshold; 0: no number up to W does
     saved = book.store()            # bytes; Book.load(saved) goes on from here, after a restart too
+    earlier = book.store_kind_1()   # the earlier kind of image, of a book without the additional link
 
 Intervals that a site's logger hands over as records (request 2026-01 of document 02) are entered by
 `for interval in book.intervals(records): book.enter(*interval, schedule)`. Their regions stand in number order; records
@@ -19,6 +20,10 @@ A retailer's bill is held against the rules (request 2026-09 of document 02) by 
 
 Money is in whole cents, the index in whole dollars. docs/REFUSALS.md has every refusal, host/c/guxhamole.h every
 function.
+
+A book may be opened with one additional link between two regions that are not linked already (request 2026-10):
+`Settings(.., from_=4, to=0)`. Its flow, above 0 from the first named to the second, and its factor are then the last of
+R + 1. `load` takes images of both kinds.
 
 A book is opened at, and set to, thresholds in whole hundreds of dollars, multiples of 10,000 cents (request 2026-06 of
 document 02). An image may hold another one: it loads, and that threshold stays until the next setting.
@@ -45,13 +50,16 @@ from dataclasses import dataclass
 from pathlib import Path
 from typing import Iterator, List, NamedTuple, Optional, Sequence
 
-ABI = 1
+ABI = 2
 NO_PARENT = 255
+NO_END = 255  # both ends of the additional link, where a book has none
 LONGEST_TEXT = 21  # bytes: "-92233720368547758.08"
 LARGEST_RING = 8 * 11 * 2016
-HEAD = 148  # bytes of an image before its prices
+HEAD = 156  # bytes of an image of kind 2 before its prices; kind 1 has eight fewer
+REPLAYED_HEAD = 148  # a replay's restarts go by kind 1
 INTERVAL_HEAD = 12  # bytes of the record that heads an interval
 REGION_HEAD = 16  # bytes of a region's record before its prices
+LINK_RECORD = 14  # bytes of the additional link's record
 
 MEANINGS = {
     10: "the book is closed, or a field of it is outside its limits",
@@ -61,17 +69,17 @@ MEANINGS = {
     14: "a day kind that is neither 0 nor 1",
     15: "a mark that is neither 0 nor 1",
     16: "a price out of its market's range",
-    17: "a factor outside 10,000..20,000",
+    17: "a factor, of a link to a parent or of the additional one, outside 10,000..20,000",
     18: "a threshold outside 1..100,000,000,000",
     19: "a cap outside 1..10,000,000 or a floor outside -10,000,000..-1",
-    20: "a setting outside its limits",
+    20: "a setting outside its limits, or ends that no additional link may have",
     21: "a region or market that the book does not have",
     22: "the ring is not this book's, or was changed by others",
     23: "a buffer shorter than the image, or than the interval's records",
-    24: "an image's length",
-    25: "an image's kind",
-    26: "a field of an image outside its limits",
-    27: "an image's length is not that of its prices",
+    24: "an image's length, of kind 2 below 156 too",
+    25: "an image's kind, neither 1 nor 2",
+    26: "a field of an image, of kind 2 up to byte 155, outside its limits",
+    27: "an image's length is not that of its kind and prices",
     30: "a quarter or an amount outside its limits",
     31: "a schedule's half-hours, or how many prices or day kinds are lent",
     32: "a schedule's day kind is neither 0 nor 1, or one kind is missing",
@@ -83,6 +91,7 @@ MEANINGS = {
     44: "a threshold that is no multiple of 10,000 cents",
     45: "a record that isn't the next region's",
     46: "a bill's line of more than 1,000,000,000 kilowatt-hours",
+    47: "a book with the additional link, which an image of kind 1 cannot tell",
 }
 
 # "15 to 17 give the first place in the lent slice", 46 the line; beside any other refusal the place is 0 and says
@@ -106,7 +115,8 @@ class Refusal(Exception):
 
 @dataclass(frozen=True)
 class Settings:
-    """What a book is opened with; as it stands the real market, its first entry at midnight."""
+    """What a book is opened with; as it stands the real market, its first entry at midnight. `from_` and `to` are the
+    ends of the additional link, the first and the second named."""
 
     regions: int = 5
     services: int = 10
@@ -117,6 +127,8 @@ class Settings:
     threshold: int = 182_360_000
     cap: int = 60_000
     floor: int = -60_000
+    from_: int = NO_END
+    to: int = NO_END
 
 
 class Report(NamedTuple):
@@ -137,7 +149,7 @@ class Entered(NamedTuple):
 
 class Interval(NamedTuple):
     """An entry but for its schedule, as records carry it and a seed draws it: `book.enter(*interval, schedule)` enters
-    it."""
+    it. Flows and factors have one place more where the book has the additional link, the last."""
 
     number: int
     day_kind: int
@@ -194,16 +206,17 @@ class Schedule(NamedTuple):
 class _Settings(ctypes.Structure):
     _fields_ = [
         ("regions", c_uint8), ("services", c_uint8), ("window", c_uint16), ("halves", c_uint8), ("first", c_uint16),
-        ("parents", c_uint8 * 8), ("threshold", c_int64), ("cap", c_int32), ("floor", c_int32),
+        ("parents", c_uint8 * 8), ("from_", c_uint8), ("to", c_uint8), ("threshold", c_int64), ("cap", c_int32),
+        ("floor", c_int32),
     ]
 
 
 class _Book(ctypes.Structure):
     _fields_ = [
         ("regions", c_uint8), ("services", c_uint8), ("window", c_uint16), ("halves", c_uint8),
-        ("parents", c_uint8 * 8), ("threshold", c_int64), ("cap", c_int32), ("floor", c_int32),
-        ("entries", c_uint32), ("position", c_uint16), ("counts", c_uint16 * 8), ("nexts", c_uint16 * 8),
-        ("sums", c_int64 * 88), ("marks", c_uint8 * 88),
+        ("parents", c_uint8 * 8), ("from_", c_uint8), ("to", c_uint8), ("threshold", c_int64), ("cap", c_int32),
+        ("floor", c_int32), ("entries", c_uint32), ("position", c_uint16), ("counts", c_uint16 * 8),
+        ("nexts", c_uint16 * 8), ("sums", c_int64 * 88), ("marks", c_uint8 * 88),
     ]
 
 
@@ -250,7 +263,7 @@ class _Rows(ctypes.Structure):
 
 
 _SIZES = {
-    _Settings: 32, _Book: 864, _Kept: 880, _Entered: 888, _Reading: 24, _Stored: 16, _Found: 24, _Rewritten: 16,
+    _Settings: 40, _Book: 864, _Kept: 880, _Entered: 888, _Reading: 24, _Stored: 16, _Found: 24, _Rewritten: 16,
     _Drawn: 16, _Left: 8, _Billed: 32, _Rows: 400,
 }
 for _layout, _size in _SIZES.items():
@@ -276,6 +289,7 @@ _FUNCTIONS = {
     "intervals_left": (_Left, [_Book, *_SIGNED, c_uint32, c_uint32, c_int32]),
     "enter": (_Entered, [_Book, *_SIGNED, c_uint32, c_uint8, *_CONTENTS, *_SIGNED, *_SIGNED]),
     "store": (_Stored, [_Book, *_SIGNED, *_BYTES]),
+    "store_kind_2": (_Stored, [_Book, *_SIGNED, *_BYTES]),
     "load": (_Kept, [*_BYTES, *_SIGNED]),
     "interval_read": (_Found, [_Book, *_BYTES, c_size_t, *_CONTENTS]),
     "interval_write": (_Stored, [_Book, c_uint32, c_uint8, *_CONTENTS, *_BYTES]),
@@ -398,8 +412,8 @@ class Book:
 
     @classmethod
     def load(cls, image: bytes) -> "Book":
-        """The book of an image, with a ring of its own, whether or not `open` would take its threshold. Refusals: 24 25
-        26 27 16."""
+        """The book of an image of either kind, with a ring of its own, whether or not `open` would take its threshold.
+        Refusals: 24 25 26 27 16."""
         lent = _lent(_numbers(image, c_uint8))
         number = _face().guxhamole_image_check(*lent)
         if number not in (0, 16):
@@ -410,7 +424,8 @@ class Book:
 
     def enter(self, number: int, day_kind: int, prices: Sequence[int], marks: Sequence[int], flows: Sequence[int],
               factors: Sequence[int], schedule: Sequence[int]) -> Entered:
-        """One interval; `number` is that of the entries taken before it. Refusals: 11 to 17."""
+        """One interval; `number` is that of the entries taken before it. A region each, and last, where the book has
+        it, the additional link, have a flow and a factor. Refusals: 11 to 17."""
         head = (_fits(number, c_uint32), _fits(day_kind, c_uint8))
         table = (c_int32 * (self.regions * (self.services + 1)))()
         lent = _lent(*_contents(prices, marks, flows, factors), _numbers(schedule, c_int32), table)
@@ -440,10 +455,13 @@ class Book:
         return _accepted(_face().guxhamole_intervals_left(self._book, *_lent(self._ring), *question)).intervals
 
     def store(self) -> bytes:
-        """The book's image, of which `load` makes the same book."""
-        image = (c_uint8 * (HEAD + 4 * len(self._ring)))()
-        answer = _accepted(_face().guxhamole_store(self._book, *_lent(self._ring, image)))
-        return bytes(image)[:answer.length]
+        """The book's image, by kind 2, of which `load` makes the same book."""
+        return self._stored(_face().guxhamole_store_kind_2)
+
+    def store_kind_1(self) -> bytes:
+        """The image of the earlier kind, for those who read no other; of a book that was loaded from one, the very
+        bytes, but for what was called since. Refusal: 47."""
+        return self._stored(_face().guxhamole_store)
 
     def read_interval(self, records: bytes, at: int = 0) -> Found:
         """The interval at a place of some records, any bytes-like object, its regions in number order; what stands
@@ -504,15 +522,26 @@ class Book:
         lent = [*_lent(_bytes(records), _numbers(schedule, c_int32)), _fits(region, c_uint32), *_lent(*_columns(lines))]
         return _accepted(_face().guxhamole_bill(self._book, *_lent(self._ring, work), *lent))
 
+    def _stored(self, function) -> bytes:
+        """The image that a function of the library stores, with room for either kind."""
+        image = (c_uint8 * (HEAD + 4 * len(self._ring)))()
+        answer = _accepted(function(self._book, *_lent(self._ring, image)))
+        return bytes(image)[:answer.length]
+
+    def _linked(self) -> int:
+        """1 where the book has the additional link, else 0."""
+        return int(self.from_ != NO_END)
+
     def _slices(self):
         """Room for an interval of this book: its prices, marks, flows and factors."""
-        regions = self.regions
-        return [(c_int32 * (regions * (self.services + 1)))(), (c_uint8 * regions)(), (c_int32 * regions)(),
-                (c_uint32 * regions)()]
+        regions, links = self.regions, self.regions + self._linked()
+        return [(c_int32 * (regions * (self.services + 1)))(), (c_uint8 * regions)(), (c_int32 * links)(),
+                (c_uint32 * links)()]
 
     def _buffer(self):
         """Room for the records of an interval of this book."""
-        return (c_uint8 * (INTERVAL_HEAD + self.regions * (REGION_HEAD + 4 * (self.services + 1))))()
+        regions = self.regions * (REGION_HEAD + 4 * (self.services + 1))
+        return (c_uint8 * (INTERVAL_HEAD + regions + self._linked() * LINK_RECORD))()
 
     def _rewrite(self, records, at: int) -> Rewritten:
         """The interval at a place of bytes that are the library's to look at, in number order."""
@@ -555,6 +584,16 @@ class Book:
     @property
     def parents(self) -> List[int]:
         return list(self._book.parents)
+
+    @property
+    def from_(self) -> int:
+        """The first named end of the additional link, or 255."""
+        return self._book.from_
+
+    @property
+    def to(self) -> int:
+        """The second named end of the additional link, or 255."""
+        return self._book.to
 
     @property
     def threshold(self) -> int:
@@ -620,7 +659,7 @@ def replay(calls: bytes) -> bytes:
     words = len(calls) // 4 + 1  # an entry's contents stand in its record
     answers = (c_uint8 * (3 * len(calls)))()  # the most are 34 bytes for a report's 14
     rings = [(c_int32 * LARGEST_RING)(), (c_int32 * LARGEST_RING)()]
-    image = (c_uint8 * (HEAD + 4 * LARGEST_RING))()
+    image = (c_uint8 * (REPLAYED_HEAD + 4 * LARGEST_RING))()
     contents = [(c_int32 * words)(), (c_uint32 * words)(), (c_int32 * words)()]
     written = _face().guxhamole_replay(*_lent(_numbers(calls, c_uint8), answers, *rings, image, *contents))
     return bytes(answers)[:written]

@@ -22,7 +22,7 @@ def least_kind(opening):
     return 2 if link_of(opening) else 1
 
 
-def image_of(ledger, kind=1):
+def image_of(ledger, kind=2):
     """The layout's fields in order; "for each region and market its counted prices, oldest first, 4 bytes each"."""
     opening, last = ledger.opening, ledger.taken - 1
     if kind < least_kind(opening):

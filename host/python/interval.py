@@ -7,7 +7,7 @@ from typing import NamedTuple, Sequence
 
 from arithmetic import Refused
 from book import refuse_book
-from link import knows_links, link_of, places_of
+from link import link_of, places_of
 
 # "A record, little-endian throughout, is its length (4 bytes, the whole record), a two-byte kind, then the body."
 FRONT = Struct("<IH")
@@ -30,11 +30,6 @@ def bodies(markets):
     flow (4), factor (4), M prices (4 each)." The additional link's flow and factor "are a kind 18, flow (4) and factor
     (4)". Flows and prices are signed. """
     return {HEAD: Struct("<IBB"), REGION: Struct(f"<BBiI{markets}i"), LINK: Struct("<iI")}
-
-
-def known(book, kind):
-    """The body of a kind that is known in this book: 18 in every one that may have a link."""
-    return bodies(book.services + 1).get(kind) if kind != LINK or knows_links(book) else None
 
 
 def record(markets, kind, *fields):
@@ -78,12 +73,12 @@ def write(book, interval, room):
 
 def take(given, place, book, due):
     """A due record's fields and the place after it. "40: a record missing or cut short, a length below 6 or, for a
-    known kind, another than it has. 41: a kind .. that doesn't belong there." """
+    known kind, another than it has. 41: a kind .. that doesn't belong there." Kind 18 is known in every book. """
     left = given[place:]
     if len(left) < FRONT.size:
         raise Refused(40)
     length, kind = FRONT.unpack_from(left)
-    body = known(book, kind)
+    body = bodies(book.services + 1).get(kind)
     if length < FRONT.size or length > len(left) or (body is not None and length != FRONT.size + body.size):
         raise Refused(40)
     if kind != due:

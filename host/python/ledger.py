@@ -13,8 +13,8 @@ MOST_ENTRIES = 10_000_000
 
 
 class Opening(NamedTuple):
-    """What a list of calls begins with; any record with these fields is one, and one without the last two, the ends of
-    the additional link, has none."""
+    """What a list of calls begins with; any record with these fields is one. The last two are the ends of the
+    additional link, 255 for none."""
 
     regions: int
     services: int

@@ -6,20 +6,13 @@ NO_LINK = NONE, NONE
 
 
 def ends_of(book):
-    """The first and the second named, of an opening, settings or a book's record. Where these have no place for them,
-    as the library's have none yet, there is no link."""
-    return getattr(book, "from_", NONE), getattr(book, "to", NONE)
+    """The first and the second named, of an opening, settings or a book's record."""
+    return book.from_, book.to
 
 
 def link_of(book):
     """Whether the book has the link: "the two ends (255, 255 for none)". """
     return ends_of(book) != NO_LINK
-
-
-def knows_links(record):
-    """Whether a book's record has a place for the ends. In all such books the records' kind 18 is a known one, whether
-    or not they have the link; the library's books, as yet, know none."""
-    return hasattr(record, "from_") and hasattr(record, "to")
 
 
 def ends_good(regions, parents, ends):

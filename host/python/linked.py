@@ -1,38 +1,24 @@
-"""Settings, images and records with the additional link (request 2026-10 of document 02), drawn at random. For tests
-that draw books: those that hold the library draw no link as long as LINKS says so, and those of the independent code
-alone ask for links."""
+"""Settings with the additional link (request 2026-10 of document 02), drawn at random, damaged images and records of
+such books, and what to tell of a link. For tests that draw books."""
 
-from dataclasses import fields
+from dataclasses import replace
 from itertools import permutations
 
-from guxhamole import Settings
+from arithmetic import Refused
+from book import refuse_book
 from interval import FRONT, LINK
 from ledger import Opening
-from link import NONE, ends_good, link_of
+from link import NO_LINK, NONE, ends_good, ends_of, link_of
 
-LINKS = False  # whether the library's books are drawn with links
 BODY = 148  # where the bytes of kind 2 begin that kind 1 has not
-NAMES = {field.name for field in fields(Settings)}
-
-
-def fields_of(settings):
-    """By name: those of the library's settings, or of an opening."""
-    return dict(vars(settings)) if isinstance(settings, Settings) else settings._asdict()
-
-
-def with_fields(settings, **changes):
-    """The same but for these. As long as the library's settings have no place for the ends, those with ends are an
-    opening."""
-    every = {**fields_of(settings), **changes}
-    return Settings(**every) if set(every) <= NAMES else Opening(**every)
 
 
 def opening_of(settings):
-    return Opening(**fields_of(settings))
+    return Opening(**vars(settings))
 
 
 def with_ends(settings, ends):
-    return with_fields(settings, from_=ends[0], to=ends[1])
+    return replace(settings, from_=ends[0], to=ends[1])
 
 
 def good_ends(settings):
@@ -55,17 +41,27 @@ def closes_ring(settings, ends):
     return tops[ends[0]] == tops[ends[1]]
 
 
-def linked(dice, settings, links):
+def linked(dice, settings):
     """Settings with a link, in three of four where there can be one; where both are possible, as often one that closes
-    a ring as one that doesn't. Without `links` they stay as they are, and nothing is drawn."""
-    if not links:
-        return settings
+    a ring as one that doesn't."""
     ends = good_ends(settings)
     if not ends or dice.random() < 0.25:
-        return with_ends(settings, (NONE, NONE))
+        return with_ends(settings, NO_LINK)
     closing = [pair for pair in ends if closes_ring(settings, pair)]
     joining = [pair for pair in ends if pair not in closing]
     return with_ends(settings, dice.choice(dice.choice([pairs for pairs in (closing, joining) if pairs])))
+
+
+def link_kind(settings):
+    """What its link is, for the counts of what was met."""
+    if not link_of(settings):
+        return "no link"
+    return "a ring" if closes_ring(settings, ends_of(settings)) else "two trees joined"
+
+
+def kinds_of(settings):
+    """The kinds of image that tell a book with these settings."""
+    return (2,) if link_of(settings) else (1, 2)
 
 
 def odd_ends(dice, settings):
@@ -76,6 +72,17 @@ def odd_ends(dice, settings):
              (dice.randrange(256), dice.randrange(256)), (NONE, NONE)]
     pairs += [(one, settings.parents[one]), (settings.parents[one], one)] * 3
     return dice.choice(pairs)
+
+
+def ends_alone(book):
+    """Whether a book's record would be taken, but for its ends."""
+    without = type(book).from_buffer_copy(book)
+    without.from_, without.to = NO_LINK
+    try:
+        refuse_book(without)
+    except Refused:
+        return False
+    return not ends_good(book.regions, book.parents[:], ends_of(book))
 
 
 def changed(image, place, *values):
@@ -98,7 +105,7 @@ def damaged_body(dice, image):
     """An image of kind 2 with something else at 148 to 155, or cut there; in some relabelled as well."""
     way = dice.randrange(8)
     if way == 0:
-        image = of_length(image, dice.randrange(BODY, BODY + 8))
+        image = of_length(image, dice.randint(BODY, BODY + 8))
         return relabelled(dice, image) if dice.random() < 0.3 else image
     if way < 3:
         return changed(image, dice.randrange(BODY + 2, BODY + 8), dice.choice((0, 1, 128, 254, 255)))

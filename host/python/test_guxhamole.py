@@ -5,12 +5,13 @@ import ctypes
 import pickle
 import threading
 import unittest
+from dataclasses import replace
 from pathlib import Path
 from unittest import mock
 
 import guxhamole
 from guxhamole import Book, Refusal, Settings, amount_text, check, index, replay, schedule
-from starts import by_image
+from starts import by_image, stored
 
 TOP = Path(__file__).resolve().parents[2]
 
@@ -91,7 +92,8 @@ class Cases(unittest.TestCase):
         reports = [book.report(0, market) for market in (0, 1)]
         lines = [f"{report.counted},{amount_text(report.sum)},{int(report.administered)}" for report in reports]
         self.assertEqual(lines, ["2,950.00,1", "2,2.50,0"])
-        self.assertEqual(book.store(), (TOP / "samples/worked.image").read_bytes())
+        sample = (TOP / "samples/worked.image").read_bytes()
+        self.assertEqual((book.store_kind_1(), Book.load(sample).store()), (sample, book.store()))
 
     def test_index(self):
         """ "quarters 4,777 and 3,844 in total" """
@@ -136,15 +138,31 @@ class Refusals(unittest.TestCase):
         self.refused(18, None, Book.open, small(threshold=0))
         self.refused(44, None, Book.open, small(threshold=95_000))
         self.refused(19, None, Book.open, Settings(floor=0))
+        for ends in ((255, 0), (0, 255), (0, 0), (1, 0), (2, 4), (5, 0), (0, 5), (254, 255)):
+            self.refused(20, None, Book.open, Settings(from_=ends[0], to=ends[1], threshold=0))
 
     def test_entry(self):
         """An entry with everything wrong, mended one thing after the other; nothing changes until all is right."""
         book = Book.open(small(regions=3, parents=(255, 0, 1)))
         before = book.store()
-        wrong = entry(book, [0, 10_000_001, 0, 0], number=1, day_kind=2, marks=[0, 0, 2], factors=[0, 9_999, 0])
+        self.every_refusal(book, before, [0, 9_999, 0], ((1, [0, 10_000, 20_000]),))
+
+    def test_entry_with_the_link(self):
+        """The same, and the additional link's factor comes last."""
+        book = Book.open(replace(small(regions=3, parents=(255, 0, 1)), from_=2, to=0))
+        self.refused(11, None, enter, book, [0] * 3)
+        self.refused(11, None, enter, book, [0] * 3, flows=[0] * 4)
+        factors = (1, [0, 10_000, 9_999, 20_001]), (2, [0, 10_000, 20_000, 9_999]), (3, [9, 10_000, 20_000, 10_000])
+        self.every_refusal(book, book.store(), [0, 9_999, 0, 0], factors)
+
+    def every_refusal(self, book, before, factors, mended_factors):
+        """Of an entry in a book of three regions in a row."""
+        wrong = entry(book, [0, 10_000_001, 0, 0], number=1, day_kind=2, marks=[0, 0, 2], factors=factors,
+                      flows=[0] * len(factors))
         wrong["schedule"] = [0] * 6
         mended = ((11, None, "prices", [0, 10_000_001, 0]), (13, None, "number", 0), (14, None, "day_kind", 1),
-                  (15, 2, "marks", [0, 0, 0]), (16, 1, "prices", [0, 0, 0]), (17, 1, "factors", [0, 10_000, 20_000]))
+                  (15, 2, "marks", [0, 0, 0]), (16, 1, "prices", [0, 0, 0]),
+                  *((17, place, "factors", right) for place, right in mended_factors))
         for number, place, name, right in mended:
             self.refused(number, place, book.enter, **wrong)
             self.assertEqual(book.store(), before)
@@ -179,19 +197,30 @@ class Refusals(unittest.TestCase):
         self.refused(21, None, book.report, 0, 2**32 - 1)
 
     def test_image(self):
+        """Of either kind, as the prices begin; and of kind 2 what stands before them, with 24 below 156 bytes."""
         book = Book.open(small(services=1, window=3))
         enter(book, [7, 8])
-        image = book.store()
-        patches = ((24, None, 0, 0), (25, None, 4, 2), (26, None, 6, 9), (26, None, 44, 2), (26, None, 147, 1),
-                   (27, None, 7, 0), (16, 0, 151, 127), (16, 1, 155, 128))
-        for number, place, at, byte in patches:
-            damaged = image[:at] + bytes([byte]) + image[at + 1:]
-            self.refused(number, place, Book.load, damaged)
-            self.refused(number, None, check, damaged)
-        for cut in (b"", image[:147], image[:-1], image + b"\0"):
-            self.refused(24, None, Book.load, cut)
-            self.refused(24, None, check, cut)
-        self.assertIsNone(check(image))
+        second = ((27, None, 4, 1), (26, None, 148, 0), (26, None, 149, 0), (26, None, 150, 1), (26, None, 155, 0))
+        for kind, prices, own in ((1, 148, ((26, None, 4, 2),)), (2, 156, second)):
+            image = stored(book, kind)
+            patches = ((24, None, 0, 0), (25, None, 4, 3), (26, None, 6, 9), (26, None, 44, 2), (26, None, 147, 1),
+                       (27, None, 7, 0), (16, 0, prices + 3, 127), (16, 1, prices + 7, 128), *own)
+            for number, place, at, byte in patches:
+                damaged = image[:at] + bytes([byte]) + image[at + 1:]
+                self.refused(number, place, Book.load, damaged)
+                self.refused(number, None, check, damaged)
+            for cut in (b"", image[:147], image[:-1], image + b"\0"):
+                self.refused(24, None, Book.load, cut)
+                self.refused(24, None, check, cut)
+            self.assertIsNone(check(image))
+        self.refused(24, None, check, b"\x9b" + image[1:155])
+
+    def test_kind_1(self):
+        """47 of a book with the additional link, by the method; kind 2 takes every book."""
+        book = Book.open(replace(small(regions=2), from_=1, to=0))
+        before = book.store()
+        self.refused(47, None, book.store_kind_1)
+        self.assertEqual((book.store(), before[4], before[148:].hex()), (before, 2, "01000000ffffffff"))
 
     def test_index_and_schedule(self):
         year = [1] * 4
@@ -213,14 +242,16 @@ class Refusals(unittest.TestCase):
         self.assertEqual(face.guxhamole_report(guxhamole._Book(), 0, 0).number, 10)
         self.assertEqual(face.guxhamole_open(guxhamole._settings(small(window=2)), *lent(short)).number, 11)
         self.assertEqual(face.guxhamole_load(*lent(image, short)).number, 11)
-        self.assertEqual(face.guxhamole_store(book._book, *lent(book._ring, room)).number, 23)
         self.assertEqual(face.guxhamole_amount_text(1_000, *lent((ctypes.c_uint8 * 4)())), 0)
-        book._ring[0] = 6
-        self.assertEqual(face.guxhamole_store(book._book, *lent(book._ring, room)).number, 22)
+        for store in (face.guxhamole_store, face.guxhamole_store_kind_2):
+            book._ring[0] = 5
+            self.assertEqual(store(book._book, *lent(book._ring, room)).number, 23)
+            book._ring[0] = 6
+            self.assertEqual(store(book._book, *lent(book._ring, room)).number, 22)
         self.assertEqual(bytes(room), bytes([9] * 151))
 
     def test_meanings(self):
-        self.assertEqual(list(guxhamole.MEANINGS), [*range(10, 28), *range(30, 34), *range(40, 47)])
+        self.assertEqual(list(guxhamole.MEANINGS), [*range(10, 28), *range(30, 34), *range(40, 48)])
         refusal = pickle.loads(pickle.dumps(Refusal(16, 3)))
         self.assertEqual(str(refusal), "refused 16 at 3: a price out of its market's range")
 
@@ -240,6 +271,7 @@ class Types(unittest.TestCase):
         calls = ((book.set_threshold, 2**63), (book.set_limits, 2**31, -1), (book.set_limits, 1, -2**31 - 1),
                  (book.report, 2**32, 0), (book.report, 0, -1), (amount_text, 2**63),
                  (Book.open, Settings(regions=256)), (Book.open, Settings(parents=[256] * 8)),
+                 (Book.open, Settings(from_=256, to=0)), (Book.open, Settings(from_=4, to=-1)),
                  (index, -1, [1] * 4, [1] * 4, 0), (schedule, 257, 1, -1, True, [], []))
         for call, *arguments in calls:
             with self.subTest(call=call, arguments=arguments), self.assertRaises(OverflowError):
@@ -284,15 +316,17 @@ class Images(unittest.TestCase):
         return [book.report(region, market) for region in range(book.regions) for market in range(book.services + 1)]
 
     def test_round_trip(self):
-        book = self.real_book()
-        image = book.store()
-        self.assertEqual(len(image), 148 + 4 * 11 * (4 * 30 + 22))
-        loaded = Book.load(image)
-        self.assertEqual(loaded.store(), image)
-        self.assertEqual(self.reports(loaded), self.reports(book))
-        prices = [60_001] * 55
-        self.assertEqual(enter(loaded, prices, schedule=[0] * 5_280), enter(book, prices, schedule=[0] * 5_280))
-        self.assertEqual(loaded.store(), book.store())
+        """By either kind; saved as kind 2, an image of kind 1 is eight bytes longer."""
+        for kind, head in ((1, 148), (2, 156)):
+            book = self.real_book()
+            image = stored(book, kind)
+            self.assertEqual((image[4], len(image)), (kind, head + 4 * 11 * (4 * 30 + 22)))
+            loaded = Book.load(image)
+            self.assertEqual((stored(loaded, kind), loaded.store()), (image, book.store()))
+            self.assertEqual(self.reports(loaded), self.reports(book))
+            prices = [60_001] * 55
+            self.assertEqual(enter(loaded, prices, schedule=[0] * 5_280), enter(book, prices, schedule=[0] * 5_280))
+            self.assertEqual(loaded.store(), book.store())
 
     def test_fields(self):
         book = Book.load((TOP / "samples/two-regions.image").read_bytes())
@@ -300,6 +334,10 @@ class Images(unittest.TestCase):
         self.assertEqual(fields, (2, 1, 6, 48, [255, 0] + [255] * 6, 6, 6))
         self.assertEqual((book.threshold, book.cap, book.floor), (300_000, 60_000, -60_000))
         self.assertEqual(book.report(0, 0), (312_585, 6, True, 6))
+        self.assertEqual((book.from_, book.to), (255, 255))
+        linked = Book.open(replace(small(regions=3, parents=(255, 0, 1)), from_=2, to=0))
+        self.assertEqual((linked.from_, linked.to), (2, 0))
+        self.assertEqual((Book.load(linked.store()).from_, Book.load(linked.store()).to), (2, 0))
 
     def test_copies_have_rings_of_their_own(self):
         book = Book.open(small(window=2))
@@ -308,7 +346,9 @@ class Images(unittest.TestCase):
             other = make(book)
             enter(other, [6])
             self.assertEqual((other.report(0, 0).sum, book.report(0, 0).sum), (11, 5))
-            self.assertEqual(len(book.store()), 152)
+            self.assertEqual(len(book.store()), 160)
+        linked = Book.open(Settings(from_=4, to=0))
+        self.assertEqual([(make(linked).from_, make(linked).to) for make in (copy.copy, copy.deepcopy)], [(4, 0)] * 2)
 
     def test_books_on_threads(self):
         """Books that are played at once give what one gives."""
@@ -323,9 +363,14 @@ class Images(unittest.TestCase):
 
 class Library(unittest.TestCase):
     def test_abi(self):
-        self.assertEqual(guxhamole.abi(), 1)
-        self.assertEqual((ctypes.sizeof(guxhamole._Book), ctypes.sizeof(guxhamole._Settings)), (864, 32))
-        self.assertEqual((guxhamole._Book.sums.offset, guxhamole._Book.marks.offset), (72, 776))
+        """As the header has them."""
+        book, settings = guxhamole._Book, guxhamole._Settings
+        self.assertEqual(guxhamole.abi(), 2)
+        self.assertEqual((ctypes.sizeof(book), ctypes.sizeof(settings)), (864, 40))
+        self.assertEqual((book.sums.offset, book.marks.offset, book.threshold.offset), (72, 776, 16))
+        self.assertEqual((book.from_.offset, book.to.offset), (13, 14))
+        offsets = [getattr(settings, name).offset for name in ("parents", "from_", "to", "threshold", "cap", "floor")]
+        self.assertEqual(offsets, [8, 16, 17, 24, 32, 36])
 
     def test_another_library(self):
         """One that is not there, one with other functions, and one of another ABI; the library in use stays."""
@@ -334,7 +379,7 @@ class Library(unittest.TestCase):
             guxhamole.use_library(TOP / "target/host/none.so")
         with self.assertRaises(ImportError):
             guxhamole.use_library("libc.so.6")
-        with mock.patch.object(guxhamole, "ABI", 2), self.assertRaises(ImportError):
+        with mock.patch.object(guxhamole, "ABI", 1), self.assertRaises(ImportError):
             guxhamole.use_library(used._name)
         self.assertIs(guxhamole._face(), used)
 
@@ -349,6 +394,7 @@ class Library(unittest.TestCase):
         names = {"print": lambda report: self.assertEqual(report, (8_500, 1, False, 1))}
         exec("\n".join(lines), names)
         self.assertEqual((names["left"], Book.load(names["saved"]).entries), (67, 1))
+        self.assertEqual(Book.load(names["earlier"]).store(), names["saved"])
 
 
 if __name__ == "__main__":

@@ -12,7 +12,8 @@ from arithmetic import Refused
 from guxhamole import Book, Refusal, Settings, check, replay
 from image import begun, image_of, settings_in
 from ledger import Ledger, Opening
-from starts import blank_image, by_image, by_opening, with_threshold
+from link import ends_of
+from starts import blank_image, by_image, by_opening, stored, with_threshold
 
 FILL = 7
 HIGHEST = 100_000_000_000
@@ -32,6 +33,9 @@ SMALL = Settings(1, 0, 1, 1, 0, [255] * 8, 95_000, 60_000, -60_000)
 IMAGE = bytes.fromhex(
     "94000000 0100 01 00 0100 01 00 ffffffffffffffff 00000000 0000 0000 1873010000000000 60ea0000 a015ffff"
 ) + bytes(104)
+# The same by kind 2 (request 2026-10).
+SECOND = bytes.fromhex("9c000000 0200") + IMAGE[6:] + bytes.fromhex("ffff0000ffffffff")
+IMAGES = {1: IMAGE, 2: SECOND}
 
 
 def answered(call, *arguments):
@@ -102,7 +106,8 @@ class Openings(unittest.TestCase):
     def test_pairs(self):
         """The threshold and one other thing, by all that opens."""
         pairs = ((44, {"cap": 0}), (44, {"cap": 10_000_001}), (44, {"floor": 0}), (20, {"first": 6}),
-                 (20, {"regions": 0}), (20, {"parents": [0] + [255] * 7}))
+                 (20, {"regions": 0}), (20, {"parents": [0] + [255] * 7}), (20, {"from_": 0}), (20, {"to": 0}),
+                 (20, {"from_": 0, "to": 0}), (20, {"from_": 0, "to": 1}))
         for number, other in pairs:
             for threshold in ANSWERS[44]:
                 settings = replace(SMALL, threshold=threshold, **other)
@@ -172,33 +177,35 @@ class Images(unittest.TestCase):
     """ "An image that holds another threshold still loads, and that threshold stays until the next setting." """
 
     def test_bytes(self):
-        self.assertEqual(len(IMAGE), 148)
-        self.assertEqual(blank_image(SMALL), IMAGE)
-        self.assertIsNone(check(IMAGE))
-        book = Book.load(IMAGE)
-        self.assertEqual((book.threshold, book.cap, book.floor, book.entries), (95_000, 60_000, -60_000, 0))
-        self.assertEqual(book.store(), IMAGE)
+        self.assertEqual((len(IMAGE), len(SECOND)), (148, 156))
+        for kind, image in IMAGES.items():
+            self.assertEqual(blank_image(SMALL, kind), image)
+            self.assertIsNone(check(image))
+            book = Book.load(image)
+            self.assertEqual((book.threshold, book.cap, book.floor, book.entries), (95_000, 60_000, -60_000, 0))
+            self.assertEqual((book.store_kind_1(), book.store()), (IMAGE, SECOND))
 
     def test_round_trips(self):
         """Each threshold, in an image without entries and in one with a price, is stored to the same bytes."""
         book = Book.load(IMAGE)
         enter(book, 0, -5)
-        for image in (IMAGE, book.store()):
+        for kind, image in ((1, IMAGE), (2, SECOND), (1, book.store_kind_1()), (2, book.store())):
             for threshold in IN_RANGE:
                 given = with_threshold(image, threshold)
                 self.assertIsNone(check(given))
                 loaded = Book.load(given)
-                self.assertEqual((loaded.threshold, loaded.store()), (threshold, given))
-                self.assertEqual(Book.load(loaded.store()).store(), given)
+                self.assertEqual((loaded.threshold, stored(loaded, kind)), (threshold, given))
+                self.assertEqual(stored(Book.load(loaded.store()), kind), given)
 
     def test_out_of_range(self):
         for threshold in (0, HIGHEST + 1, HIGHEST + 10_000, 2**63, 2**64 - 10_000):
-            for call in (Book.load, check, begun):
-                self.assertEqual(answered(call, with_threshold(IMAGE, threshold)), 26)
+            for call, image in product((Book.load, check, begun), IMAGES.values()):
+                self.assertEqual(answered(call, with_threshold(image, threshold)), 26)
 
     def test_worked_run(self):
         """The request's run: 95,000 is in force until 100,000 is set, which the refused setting between is not."""
-        for machine in (Book.load(IMAGE), begun(IMAGE)):
+        for start, image in product((Book.load, begun), IMAGES.values()):
+            machine = start(image)
             with self.subTest(type(machine).__name__):
                 self.assertEqual(machine.report(0, 0), (0, 0, False, 0))
                 self.assertEqual(enter(machine, 0, 95_000), (0, [95_000]))
@@ -221,9 +228,9 @@ class Images(unittest.TestCase):
                 machine.set_limits(60_000 + number, -60_000)
             self.assertEqual(enter(book, number, price), enter(ledger, number, price))
             self.assertEqual(book.report(0, 0), ledger.report(0, 0))
-            image = book.store()
+            image = stored(book, 2 - number % 2)
             self.assertEqual(image[28:36].hex(), "1873010000000000")
-            self.assertEqual(image, image_of(ledger))
+            self.assertEqual(image, image_of(ledger, 2 - number % 2))
             book = Book.load(image)
         self.assertEqual(book.threshold, 95_000)
         book.set_threshold(90_000)
@@ -246,19 +253,23 @@ class Starts(unittest.TestCase):
 
     def test_settings(self):
         """Each setting from its own place; "the next entry's position" is the first position."""
-        settings = Settings(3, 2, 300, 47, 281, [255, 0, 1, *[255] * 5], 95_001, 61_000, -62_000)
-        self.assertEqual(settings_in(blank_image(settings)), Opening(**vars(settings)))
-        book = Book.load(blank_image(settings))
-        self.assertEqual((book.regions, book.services, book.window, book.halves), (3, 2, 300, 47))
-        self.assertEqual((book.position, book.parents, book.threshold), (281, settings.parents, 95_001))
-        self.assertEqual((book.cap, book.floor), (61_000, -62_000))
+        without = Settings(3, 2, 300, 47, 281, [255, 0, 1, *[255] * 5], 95_001, 61_000, -62_000)
+        for settings, kind in ((without, 1), (without, 2), (replace(without, from_=2, to=0), 2)):
+            self.assertEqual(settings_in(blank_image(settings, kind)), Opening(**vars(settings)))
+            book = Book.load(blank_image(settings, kind))
+            self.assertEqual((book.regions, book.services, book.window, book.halves), (3, 2, 300, 47))
+            self.assertEqual((book.position, book.parents, book.threshold), (281, settings.parents, 95_001))
+            self.assertEqual((book.cap, book.floor, book.from_, book.to), (61_000, -62_000, *ends_of(settings)))
 
     def test_same_book(self):
-        """Where an opening takes the settings, both starts have the same record and ring."""
-        for threshold in ANSWERS[0]:
-            settings = replace(SMALL, regions=2, services=1, window=3, first=4, threshold=threshold)
-            (opened, _), (loaded, _) = by_opening(settings), by_image(settings)
-            self.assertEqual((fields(opened._book), list(opened._ring)), (fields(loaded._book), list(loaded._ring)))
+        """Where an opening takes the settings, all starts have the same record and ring."""
+        for threshold, (ends, kinds) in product(ANSWERS[0], (((255, 255), (1, 2)), ((1, 0), (2,)), ((0, 1), (2,)))):
+            settings = replace(SMALL, regions=2, services=1, window=3, first=4, threshold=threshold, from_=ends[0],
+                               to=ends[1])
+            opened, _ = by_opening(settings)
+            for kind in kinds:
+                loaded, _ = by_image(settings, kind)
+                self.assertEqual((fields(opened._book), list(opened._ring)), (fields(loaded._book), list(loaded._ring)))
 
     def test_first_position(self):
         """From 4 of 6, the second entry is the day's last, and releases."""
@@ -271,11 +282,11 @@ class Starts(unittest.TestCase):
 
     def test_other_images(self):
         """One with an entry, and one with a period marked, load; no list of the ledger's begins with them."""
-        for place in (20, 60):
-            image = IMAGE[:place] + b"\1" + IMAGE[place + 1:]
-            self.assertEqual(Book.load(image).store(), image)
+        for place, (kind, blank) in product((20, 60), IMAGES.items()):
+            image = blank[:place] + b"\1" + blank[place + 1:]
+            self.assertEqual(stored(Book.load(image), kind), image)
             self.assertRaises(ValueError, begun, image)
-        self.assertEqual(answered(begun, IMAGE[:-1]), 24)
+            self.assertEqual(answered(begun, blank[:-1]), 24)
 
 
 if __name__ == "__main__":

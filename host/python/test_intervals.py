@@ -1,6 +1,6 @@
 """Interval records (requests 2026-01 and 2026-08 of document 02): the worked cases of reader and writer on the library
-and on interval.py, every refusal with nothing written, and the ends of the types; test_rewriting.py has the rewriter.
-"""
+and on interval.py, every refusal with nothing written, and the ends of the types; test_rewriting.py has the rewriter,
+and test_link_records.py the records of books with the additional link."""
 
 import ctypes
 import mmap
@@ -24,6 +24,7 @@ WILD = Interval(1, 7, [-2**31, 2**31 - 1], [9, 255], [-2**31, 2**31 - 1], [2**32
 HEAD = bytes.fromhex("0c000000 1000 00000000 00 02")
 FIRST = bytes.fromhex("14000000 1100 00 00 00000000 00000000 a0860100")
 SECOND = bytes.fromhex("14000000 1100 01 00 01000000 f82a0000 905f0100")
+LINK = bytes.fromhex("0e000000 1200 01000000 f82a0000")  # of the additional link, which B2 has not
 UNKNOWN = bytes.fromhex("06000000 6300")
 I = HEAD + FIRST + SECOND
 U = HEAD + SECOND + FIRST
@@ -69,7 +70,14 @@ READS = (
     ("an unknown kind of length 5", b"\5" + UNKNOWN[1:] + I, 0, 40),
     ("an unknown kind, cut short", b"\7" + UNKNOWN[1:], 0, 40),
     ("an unknown kind, cut short behind an interval", I + b"\7" + UNKNOWN[1:], 52, 40),
-    ("a head but for its kind", HEAD[:4] + b"\x12" + HEAD[5:] + FIRST + SECOND, 0, 41),
+    ("a head but for its kind", HEAD[:4] + b"\x13" + HEAD[5:] + FIRST + SECOND, 0, 41),
+    ("a link's record of a head's length", HEAD[:4] + b"\x12" + HEAD[5:] + FIRST + SECOND, 0, 40),
+    ("a link's record where a head is due", LINK + I, 0, 41),
+    ("that cut short", LINK[:-1], 0, 40),
+    ("a link's record where a region is due", HEAD + LINK + FIRST + SECOND, 0, 41),
+    ("a link's record where the second region is due", HEAD + FIRST + LINK + SECOND, 0, 41),
+    ("a link's record behind is not looked at", I + LINK, 0, (ENTRY, 52)),
+    ("a link's record behind, where the next head is due", I + LINK, 52, 41),
     ("a kind is two bytes", HEAD[:5] + b"\1" + HEAD[6:] + FIRST + SECOND, 0, 41),
     ("a length is four bytes", HEAD[:3] + b"\1" + HEAD[4:] + FIRST + SECOND, 0, 40),
     ("a head shorter than it has to be", b"\x0b" + HEAD[1:] + FIRST + SECOND, 0, 40),
@@ -82,7 +90,8 @@ READS = (
     ("region 2", HEAD + of_region(2), 0, 45, 42),
     ("region 2, more behind", HEAD + of_region(2) + FIRST + SECOND, 0, 45, 42),
     ("region 2, cut short", HEAD + of_region(2)[:-1], 0, 40),
-    ("region 2 but for its kind", HEAD + of_region(2, FIRST[:4] + b"\x12" + FIRST[5:]) + SECOND, 0, 41),
+    ("region 2 but for its kind", HEAD + of_region(2, FIRST[:4] + b"\x13" + FIRST[5:]) + SECOND, 0, 41),
+    ("region 2 as a link's record", HEAD + of_region(2, FIRST[:4] + b"\x12" + FIRST[5:]) + SECOND, 0, 40),
     ("region 2 after region 0", HEAD + FIRST + of_region(2), 0, 45, 42),
     ("region 2 after region 0, cut short", HEAD + FIRST + of_region(2)[:-1], 0, 40),
     ("region 3", HEAD + of_region(3) + SECOND, 0, 45, 42),
@@ -91,7 +100,8 @@ READS = (
     ("region 0 twice", HEAD + FIRST + FIRST, 0, 45, 42),
     ("region 0 twice, more behind", HEAD + FIRST + FIRST + SECOND, 0, 45, 42),
     ("region 0 twice, then cut short", HEAD + FIRST + FIRST[:-1], 0, 40),
-    ("region 0 twice but for the second's kind", HEAD + FIRST + FIRST[:4] + b"\x12" + FIRST[5:], 0, 41),
+    ("region 0 twice but for the second's kind", HEAD + FIRST + FIRST[:4] + b"\x13" + FIRST[5:], 0, 41),
+    ("region 0 twice, the second as a link's record", HEAD + FIRST + FIRST[:4] + b"\x12" + FIRST[5:], 0, 40),
     ("region 1 twice", HEAD + SECOND + SECOND, 0, 45, 42),
     ("region 1 twice, more behind", HEAD + SECOND + SECOND + FIRST, 0, 45, 42),
     ("region 1 alone", HEAD + SECOND, 0, 45, 40),
@@ -101,7 +111,10 @@ READS = (
     ("region 1, then one that is longer", HEAD + SECOND + b"\x15" + FIRST[1:] + b"\0", 0, 45, 40),
     ("region 1, cut short", HEAD + SECOND[:-1], 0, 40),
     ("region 1 but for its length", HEAD + b"\x15" + SECOND[1:] + FIRST, 0, 40),
-    ("region 1 but for its kind", HEAD + SECOND[:4] + b"\x12" + SECOND[5:] + FIRST, 0, 41),
+    ("region 1 but for its kind", HEAD + SECOND[:4] + b"\x13" + SECOND[5:] + FIRST, 0, 41),
+    ("region 1 as a link's record", HEAD + SECOND[:4] + b"\x12" + SECOND[5:] + FIRST, 0, 40),
+    ("region 1, then a link's record", HEAD + SECOND + LINK + FIRST, 0, 45, 41),
+    ("region 1, then a link's record of another length", HEAD + SECOND + b"\x14" + LINK[1:] + FIRST, 0, 45, 40),
     ("downward after another total", HEAD[:11] + b"\3" + SECOND + FIRST, 0, 41),
     ("downward after a total of 1", HEAD[:11] + b"\1" + SECOND + FIRST, 0, 41),
     ("downward, no range is tested", WILD_BYTES[:12] + WILD_BYTES[32:] + WILD_BYTES[12:32], 0, 45, (WILD, 52)),

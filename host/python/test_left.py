@@ -12,6 +12,7 @@ from arithmetic import Refused
 from book import counted, refuse_book, refuse_length, refuse_prices
 from guxhamole import Book, Refusal, Settings
 from ledger import Entry, Ledger, Opening
+from link import ends_of, places_of
 from starts import by_image, by_opening
 
 FILL = 9_000_000  # a price that would be seen in any sum
@@ -80,7 +81,7 @@ def ledger_of(book, ring):
     own first price a region is marked."""
     regions, markets, length = range(book.regions), range(book.services + 1), max(book.counts)
     shape = (book.regions, book.services, book.window, book.halves)
-    ledger = Ledger(Opening(*shape, 0, list(book.parents), book.threshold, book.cap, book.floor))
+    ledger = Ledger(Opening(*shape, 0, list(book.parents), book.threshold, book.cap, book.floor, *ends_of(book)))
     rows = [[None] * (length - book.counts[region]) + counted(book, ring, region, market)
             for region in regions for market in markets]
     for number in range(length):
@@ -119,7 +120,8 @@ def entered(book, region, market, price):
     """The sums that a copy of the book reports after 1 to W further entries of a price."""
     further, markets, sums = copy.copy(book), book.services + 1, []
     row = [price if place == region * markets + market else 0 for place in range(book.regions * markets)]
-    others = [0] * book.regions, [0] * book.regions, [10_000] * book.regions, [0] * (len(row) * 2 * book.halves)
+    links = [0] * places_of(book), [10_000] * places_of(book)
+    others = [0] * book.regions, *links, [0] * (len(row) * 2 * book.halves)
     for _ in range(book.window):
         further.enter(further.entries, 0, row, *others)
         sums.append(further.report(region, market).sum)

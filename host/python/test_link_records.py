@@ -1,5 +1,5 @@
-"""Records, test loads and bills of books with the additional link (request 2026-10 of document 02): worked cases on the
-independent code, of `kit` as those of test_links.py are."""
+"""Records, test loads and bills of books with the additional link (request 2026-10 of document 02): worked cases of
+`kit`, as those of test_links.py are."""
 
 import unittest
 
@@ -117,18 +117,6 @@ class Records(OfTwo):
         written = interval.write(book, wild, 66)
         self.assertEqual(written[52:].hex(), "0e0000001200" + "00000080" + "ffffffff")
         self.assertEqual(interval.read(book, [2, 2, 3, 3], written, 0), (wild, 66))
-
-    def test_a_record_that_knows_no_links(self):
-        """As the library's, as yet: kind 18 is unknown there, and another length of it is 41."""
-        class Earlier:
-            def __init__(self, book):
-                for name, _ in book._fields_:
-                    if name not in ("from_", "to"):
-                        setattr(self, name, getattr(book, name))
-
-        book = Earlier(self.book((255, 255)))
-        self.on_both(book, WHOLE, 0, WITHOUT, 52, (0, 0))
-        self.on_both(book, b"\x0c" + LINK[1:] + WHOLE, 0, WITHOUT, 52, (41, 41))
 
 
 class Loads(OfTwo):

@@ -47,11 +47,11 @@ LEDGER = (
     ("one link alone", "test_1_a_ring", "lists", "ways, left - {end})", "ways, set())"),
     ("flow the other way", "test_2_two_routes", "lists", "append(ends_of(self.opening))",
      "append(ends_of(self.opening)[::-1])"),
-    ("sign not looked at", "test_2_the_longer_route_alone", "lists", "factor) if flow > 0 else",
+    ("sign not looked at", "test_3_the_direct_route_carries_nothing", "lists", "factor) if flow > 0 else",
      "factor) if flow > 0 or (first, second) == ends_of(self.opening) else"),
-    ("a flow of 0 carries", "test_2_the_longer_route_alone", "lists", CARRIES,
+    ("a flow of 0 carries", "test_3_the_direct_route_carries_nothing", "lists", CARRIES,
      CARRIES.replace(" and flow != 0", "").replace("flow > 0", "flow >= 0")),
-    ("flow read at R − 1", "test_2_the_longer_route_alone", "lists", PAIR,
+    ("flow read at R − 1", "test_3_the_direct_route_carries_nothing", "lists", PAIR,
      PAIR.replace("entry.flows", AT_R.format("flows"))),
     ("factor read at R − 1", "test_2_two_routes", "lists", PAIR,
      PAIR.replace("entry.factors", AT_R.format("factors"))),
@@ -113,12 +113,15 @@ RECORD = (
     ("no 47", "test_9_stored", "images", REFUSED_47, ""),
     ("47 without the link", "test_12_without_the_link", "images", "kind == 1 and link_of(book)", "kind == 1"),
 )
-KNOWN = "kind != LINK or knows_links(book)"
+KNOWN = "    body = bodies(book.services + 1).get(kind)\n"
 TAKEN = "take(given, place, book, LINK) if link_of(book) else"
 INTERVAL = (
-    ("18 known nowhere", "test_reads", "records", KNOWN, "kind != LINK"),
-    ("18 known where the link is", "test_reads", "records", KNOWN, "kind != LINK or link_of(book)"),
-    ("18 known in every record", "test_a_record_that_knows_no_links", None, KNOWN, "True"),
+    ("18 known nowhere but where it is due", "test_reads", "records", KNOWN,
+     KNOWN[:-1] + " if kind in (due, HEAD, REGION) else None\n"),
+    ("18 known where the link is", "test_reads", "records", KNOWN,
+     KNOWN[:-1] + " if kind != LINK or link_of(book) else None\n"),
+    ("18 of any length", "test_reads", "records", "(body is not None and length",
+     "(body is not None and kind != LINK and length"),
     ("18 not read", "test_reads", "records", TAKEN, "((0, 0), place) if link_of(book) else"),
     ("18 read in every book", "test_reads", "records", TAKEN, TAKEN.replace("link_of(book)", "True")),
     ("18 not written", "test_writes", "records", "    if link_of(book):\n        yield",

@@ -1,5 +1,6 @@
-"""The additional link (request 2026-10 of document 02): its worked cases on the independent code, whose books may have
-it; the library's have none yet. The tests are of `kit`, so that test_link_variants.py can try them on wrong code."""
+"""The additional link (request 2026-10 of document 02): its worked cases on the independent code. The tests are of
+`kit`, so that test_link_library.py can hold the library to them, and test_link_variants.py can try them on wrong code.
+"""
 
 import unittest
 
@@ -41,7 +42,7 @@ class Worked(unittest.TestCase):
     def refused(self, number, call, *arguments, place=None):
         with self.assertRaises(Exception) as caught:
             call(*arguments)
-        self.assertEqual(type(caught.exception).__name__, "Refused", caught.exception)
+        self.assertIn(type(caught.exception).__name__, ("Refused", "Refusal"), caught.exception)
         self.assertEqual((caught.exception.number, caught.exception.place), (number, place))
 
 
@@ -60,14 +61,11 @@ class Limits(Worked):
             with self.subTest(factors=factors):
                 self.assertEqual(self.published((2, 0), self.PRICES, [0, 1, 1, 1], factors), (3, table))
 
-    def test_2_the_longer_route_alone(self):
-        """58,818 by B, where the direct one, which would bind, carries nothing."""
-        for flow in (0, -1, -2**31):
+    def test_3_the_direct_route_carries_nothing(self):
+        """58,818 by B, where the direct one, which would bind, carries nothing; with factors of 11,000 it would not."""
+        for flow in (-1, 0, -2**31):
             table = self.published((2, 0), self.PRICES, [0, 1, 1, flow], [0, 10_100, 10_100, 13_000])[1]
             self.assertEqual(table, [60_000, 59_406, 58_818])
-
-    def test_3_the_direct_route_carries_nothing(self):
-        for flow in (-1, 0, -2**31):
             answer = self.published((2, 0), self.PRICES, [0, 1, 1, flow], [0, 11_000, 11_000, 11_000])
             self.assertEqual(answer, (3, [60_000, 54_545, 49_587]))
 

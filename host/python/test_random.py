@@ -9,23 +9,33 @@ import arithmetic
 import guxhamole
 from arithmetic import Refused, nearest
 from guxhamole import Book, Refusal, Settings
-from image import PRICES, image_of, least_kind, refuse_image
+from image import PRICES, image_of, refuse_image
 from ledger import NONE, Entry, Ledger
-from link import places_of
-from linked import LINKS, damaged_body, fields_of, linked, odd_ends, relabelled, with_fields
-from starts import by_image, by_opening
+from link import NO_LINK, link_of, places_of
+from linked import damaged_body, kinds_of, link_kind, linked, odd_ends, relabelled, with_ends
+from starts import blank_image, by_image, by_opening, stored
 
 SEED = 12
 CALLS = 20_000
 WINDOWS = (1, 2, 3, 4)
-REGIONS = (1, 1, 2, 3, 4, 8)
+REGIONS = (1, 2, 2, 3, 3, 4, 5, 6, 7, 8)
 # Every refusal that a `Book` can meet: it has the ring's and the buffers' lengths right (23, 33), is never closed or
 # damaged (10), and its ring is its own (22).
-MET = (11, 12, 13, 14, 15, 16, 17, 18, 19, 20, 21, 24, 25, 26, 27, 30, 31, 32, 44)
-# What must be met besides: periods and limits of other regions, and thresholds that an image brought.
-SHOWN = ("accepted", "marked", "bound", "another cent", "begun", "ended", "begun by an image",
-         "restarted at no multiple", "not above, the hundreds below are", "above, the next hundreds are not",
-         "exactly at no multiple")
+MET = (11, 12, 13, 14, 15, 16, 17, 18, 19, 20, 21, 24, 25, 26, 27, 30, 31, 32, 44, 47)
+# What must be met besides, at least ten times: periods and limits of other regions, and thresholds that an image
+# brought.
+SHOWN = ("accepted", "marked", "bound", "another cent", "begun", "ended", "begun by an image of kind 1",
+         "begun by an image of kind 2", "restarted at no multiple", "not above, the hundreds below are",
+         "above, the next hundreds are not", "exactly at no multiple")
+# And of the additional link, so often: books by their links, restarts by both kinds, and what it makes of prices.
+OF_LINKS = {
+    "no link": 75, "a ring": 50, "two trees joined": 45, "first end above": 45, "first end below": 45,
+    **{f"{regions} regions with the link": 8 for regions in range(2, 9)}, "entries with the link": 2_000,
+    "flow 0": 200, "the link binds": 200, "the other way otherwise": 350, "17 of the link": 12, "20 of the ends": 80,
+    "restarted by kind 1": 200, "restarted by kind 2": 400, 47: 250, "stored as kind 1 once more": 180,
+    "damaged, of kind 1": 130, "damaged, of kind 2": 400, "26 at 148 to 155": 100, "24 from 148 on": 20,
+    "relabelled 24": 10, "relabelled 25": 90, "relabelled 26": 18, "relabelled 27": 25, "other ends loaded": 13,
+}
 # Thresholds at the ends of the range and beyond; out of range a multiple of 10,000 is refused as any other number.
 ODD_THRESHOLDS = (-2**63, -10_000, -1, 0, 1, 99_999_999_999, 100_000_000_000, 100_000_000_001, 100_000_010_000)
 # Caps and floors with the factors of a route, the source's link first, at whose end a ten-thousandth of a cent on the
@@ -50,7 +60,7 @@ def outcome(call, *arguments):
         return "refused", refused.number, refused.place
 
 
-def random_settings(dice, links=LINKS, regions=REGIONS):
+def random_settings(dice, regions=REGIONS):
     regions, services = dice.choice(regions), dice.choice((0, 0, 1, 2))
     halves = dice.choice((1, 1, 2))
     parents = [NONE] * 8
@@ -58,7 +68,7 @@ def random_settings(dice, links=LINKS, regions=REGIONS):
         parents[region] = dice.choice((NONE, *range(region), region - 1))
     settings = Settings(regions, services, dice.choice(WINDOWS), halves, dice.randrange(6 * halves), parents,
                         random_threshold(dice), *random_limits(dice))
-    return linked(dice, settings, links)
+    return linked(dice, settings)
 
 
 def random_threshold(dice):
@@ -81,24 +91,23 @@ def random_price(dice, energy):
     return dice.choice((price, price // 10_000 * 10_000))
 
 
-def bad_settings(dice, links=LINKS):
-    """Settings of which one is outside its limits, or at them; in one in two the threshold is another one too. With
-    links, in one in three the ends are odd."""
-    settings = random_settings(dice, links)
-    good = fields_of(settings)
+def bad_settings(dice):
+    """Settings of which one is outside its limits, or at them; in one in two the threshold is another one too. In one
+    in three the ends are odd."""
+    settings = random_settings(dice)
     thresholds = ("threshold", (*ODD_THRESHOLDS, near_hundreds(dice), near_hundreds(dice)))
-    if links and dice.random() < 0.33:
+    if dice.random() < 0.33:
         first, second = odd_ends(dice, settings)
         threshold = dice.choice((settings.threshold, settings.threshold, 0, near_hundreds(dice)))
-        return with_fields(settings, from_=first, to=second, threshold=threshold)
+        return replace(settings, from_=first, to=second, threshold=threshold)
     name, values = dice.choice((
         ("regions", (0, 9, 255)), ("services", (11, 255)), ("window", (0, 2017, 65_535)), ("halves", (0, 49)),
-        ("first", (6 * good["halves"], 65_535)), ("parents", ([0] + [NONE] * 7, [NONE] * 7 + [0], [NONE] + [1] * 7)),
+        ("first", (6 * settings.halves, 65_535)), ("parents", ([0] + [NONE] * 7, [NONE] * 7 + [0], [NONE] + [1] * 7)),
         thresholds, thresholds, ("cap", (0, 10_000_000, 10_000_001)), ("floor", (0, -10_000_000, -10_000_001)),
     ))
     if dice.random() < 0.5:
-        good["threshold"] = dice.choice(thresholds[1])
-    return with_fields(settings, **{**good, name: dice.choice(values)})
+        settings = replace(settings, threshold=dice.choice(thresholds[1]))
+    return replace(settings, **{name: dice.choice(values)})
 
 
 def random_prices(dice, settings):
@@ -160,10 +169,10 @@ def damage(dice, entry):
         entry[part][dice.randrange(len(entry[part]))] = dice.choice(bad[part - 2])
 
 
-def damaged_image(dice, image, links=LINKS):
-    """An image with a byte changed, cut, or longer; or with a price out of range. With links, in one in two it is
-    relabelled, or damaged where kind 2 has the ends."""
-    if links and dice.random() < 0.5:
+def damaged_image(dice, image):
+    """An image with a byte changed, cut, or longer; or with a price out of range. In one in two it is relabelled, or
+    damaged where kind 2 has the ends."""
+    if dice.random() < 0.5:
         return damaged_body(dice, image) if image[4] == 2 and dice.random() < 0.7 else relabelled(dice, image)
     way, prices = dice.randrange(6), PRICES.get(image[4], 148)
     if way == 0:
@@ -231,17 +240,27 @@ class Calls:
         """A new list's book and ledger: by an opening, or by an image of a book without entries, in which the threshold
         is often no multiple of 10,000; one in eight goes on from a book that has taken nearly all entries."""
         self.settings, way = random_settings(self.dice), self.dice.random()
+        self.count_link()
         if way < 0.5:
             self.book, self.ledger = by_opening(self.settings)
             return
+        kind = self.dice.choice(kinds_of(self.settings))
         if self.dice.random() < 0.5:
             self.settings = replace(self.settings, threshold=near_hundreds(self.dice))
         if way < 0.875:
-            self.book, self.ledger = by_image(self.settings)
-            self.met["begun by an image"] += 1
+            self.book, self.ledger = by_image(self.settings, kind)
+            self.met[f"begun by an image of kind {kind}"] += 1
         else:
             self.ledger = Ledger(self.settings, 10_000_000 - self.dice.randint(0, 9))
-            self.book = Book.load(image_of(self.ledger, least_kind(self.settings)))
+            self.book = Book.load(image_of(self.ledger, kind))
+
+    def count_link(self):
+        """A list's book by its link."""
+        settings, link = self.settings, link_of(self.settings)
+        self.met[link_kind(settings)] += 1
+        self.met["first end above"] += link and settings.from_ > settings.to
+        self.met["first end below"] += link and settings.from_ < settings.to
+        self.met[f"{settings.regions} regions with the link"] += link
 
     def on_both(self, name, *arguments):
         """A call of the book and of the ledger; refused, it leaves book and ring as they were."""
@@ -259,6 +278,7 @@ class Calls:
         while self.dice.random() < 0.3:
             damage(self.dice, entry)
         answer = self.on_both("enter", *entry)
+        self.met["17 of the link"] += link_of(settings) and answer == ("refused", 17, settings.regions)
         if answer[0] == "accepted":
             self.look_at(Entry(*entry), answer[1].table)
 
@@ -272,14 +292,25 @@ class Calls:
             self.met["bound"] += not before and not entry.marks[region] and table[place] != entry.prices[place]
             self.met["begun"] += after and not before
             self.met["ended"] += before and not after
-        self.met["another cent"] += self.in_cents(entry) != table
+        self.met["another cent"] += self.as_if(Cents, entry) != table
+        self.look_at_link(entry, table)
         self.look_at_sums(last)
 
-    def in_cents(self, entry):
-        """What the accepted entry would have published, if limits were passed on in cents."""
-        cents = Cents(self.settings, self.ledger.marked)
-        cents.entries, cents.settings = self.ledger.entries[:-1], self.ledger.settings
-        return cents.published(entry, cents.effective(entry))
+    def as_if(self, kind, entry):
+        """What another kind of ledger would have published instead of the last entry, or what another entry would."""
+        other = kind(self.settings, self.ledger.marked)
+        other.entries, other.settings = self.ledger.entries[:-1], self.ledger.settings
+        return other.published(entry, other.effective(entry))
+
+    def look_at_link(self, entry, table):
+        """Counts what the additional link made of the prices, and its flow's sign."""
+        if link_of(self.settings):
+            flow, before = entry.flows[-1], entry.flows[:-1]
+            turned = max(-2**31, min(2**31 - 1, -flow))
+            self.met["entries with the link"] += 1
+            self.met["flow 0"] += flow == 0
+            self.met["the link binds"] += self.as_if(Ledger, entry._replace(flows=[*before, 0])) != table
+            self.met["the other way otherwise"] += self.as_if(Ledger, entry._replace(flows=[*before, turned])) != table
 
     def look_at_sums(self, t):
         """Counts sums after t at a threshold that is no multiple of 10,000: those that one rounded to a multiple would
@@ -307,26 +338,58 @@ class Calls:
         self.on_both("report", region, market)
 
     def restart(self):
-        """ "P accepts both calls and does nothing." The image is that of the ledger's book. """
+        """By either kind: "P accepts both calls and does nothing", but that 47 may refuse the one. The image is that of
+        the ledger's book, and what was loaded is stored by its kind to the same bytes. """
+        kind, before = self.dice.choice((1, 2)), (bytes(self.book._book), bytes(self.book._ring))
+        answer = outcome(stored, self.book, kind)
+        self.compare(answer, outcome(image_of, self.ledger, kind), "store", kind, self.settings)
+        self.test.assertEqual((bytes(self.book._book), bytes(self.book._ring)), before)
+        if answer[0] == "refused":
+            return
         self.met["restarted at no multiple"] += self.book.threshold % 10_000 != 0
         self.restarts.add((self.book.window, self.book._book.counts[0], self.book._book.nexts[0]))
         self.restarts.add((self.book.halves, "position", self.book.position))
-        image = self.book.store()
-        self.compare(("accepted", image), ("accepted", image_of(self.ledger)), "store", self.settings)
-        self.book = Book.load(image)
-        self.compare(("accepted", self.book.store()), ("accepted", image), "load", self.settings)
+        self.book = Book.load(answer[1])
+        self.compare(outcome(stored, self.book, kind), answer, "load", self.settings)
+        self.met[f"restarted by kind {kind}"] += 1
+        self.by_the_other_kind(kind)
+
+    def by_the_other_kind(self, kind):
+        """What was loaded from one kind is stored by the other, where that tells the book, and loads to the same."""
+        if not link_of(self.settings):
+            other = Book.load(stored(self.book, 3 - kind))
+            for each in (1, 2):
+                self.test.assertEqual(stored(other, each), stored(self.book, each))
+            self.met["stored as kind 1 once more"] += kind == 2
 
     def bad_open(self):
         settings = bad_settings(self.dice)
         of_book = outcome(lambda: Book.open(settings).store())
         self.compare(of_book, outcome(lambda: image_of(Ledger.open(settings))), "open", settings)
+        if of_book == ("refused", 20, None):
+            self.met["20 of the ends"] += outcome(Ledger.open, with_ends(settings, NO_LINK))[1] != 20
 
     def bad_image(self):
-        image = damaged_image(self.dice, self.book.store())
+        """An image of either kind, of this book or of one without entries, damaged; what is taken is stored by its kind
+        to the same bytes."""
+        kind = self.dice.choice(kinds_of(self.settings))
+        whole = stored(self.book, kind) if self.dice.random() < 0.6 else blank_image(self.settings, kind)
+        image = damaged_image(self.dice, whole)
         verdict = outcome(refuse_image, image)
-        loaded = outcome(lambda: Book.load(image).store())
+        loaded = outcome(lambda: stored(Book.load(image), image[4]))
         self.compare(loaded, verdict if verdict[0] == "refused" else ("accepted", image), "load", image)
         self.compare(outcome(guxhamole.check, image), (*verdict[:2], None)[:len(verdict)], "check", image)
+        self.count_image(whole, image, verdict[1])
+
+    def count_image(self, whole, image, number):
+        """What was wrong with a damaged image, and by which number it was refused, if it was."""
+        self.met[f"damaged, of kind {whole[4]}"] += 1
+        if (image[:148], image[156:]) == (whole[:148], whole[156:]) and whole[4] == 2:
+            self.met["26 at 148 to 155"] += number == 26
+            self.met["other ends loaded"] += number is None and image != whole
+        self.met["24 from 148 on"] += number == 24 and 148 <= len(image) < 156 and image[4:6] == b"\2\0"
+        if (image[:4], image[6:]) == (whole[:4], whole[6:]) and number:
+            self.met[f"relabelled {number}"] += 1
 
     def arithmetic(self):
         making, indexing = random_making(self.dice), random_indexing(self.dice)
@@ -358,8 +421,8 @@ class RandomCalls(unittest.TestCase):
         calls = Calls(self)
         while calls.calls < CALLS:
             calls.play()
-        for what in (*SHOWN, *MET):
-            self.assertGreaterEqual(calls.met[what], 10, what)
+        for what, least in {**dict.fromkeys((*SHOWN, *MET), 10), **OF_LINKS}.items():
+            self.assertGreaterEqual(calls.met[what], least, what)
         self.assertEqual({what for what in calls.met if isinstance(what, int)}, set(MET))
         phases = {(window, count, count) for window in WINDOWS for count in range(window)}
         phases |= {(window, window, place) for window in WINDOWS for place in range(window)}

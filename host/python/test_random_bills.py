@@ -14,11 +14,13 @@ from bill import MOST_ENERGY, Resumed
 from book import counted
 from guxhamole import Book
 from held_bill import FILL, MARGIN, columns, library_bill, method_bill
-from image import image_of, least_kind
+from image import image_of
 from interval import Interval, records
 from ledger import Ledger
+from link import link_of
+from linked import ends_alone, kinds_of, link_kind
 from mistakes import FORGERIES, mistaken, right_line, spoiled
-from starts import by_image, by_opening
+from starts import by_image, by_opening, stored
 from test_intervals import number_of, right_lengths
 from test_random import near_hundreds, outcome, random_entry, random_limits, random_price, random_settings
 from test_random_intervals import damaged
@@ -41,6 +43,10 @@ MET = {
     "yes to nothing": 150, "yes to more than 8": 50, "marked": 600, "another price than the entry's": 1_500,
     "half a cent": 450, "half a cent below zero": 350, "half a cent from the even": 500,
     "1,000,000,000 kilowatt-hours": 500,
+    "no link": 100, "a ring": 60, "two trees joined": 60, "linked, yes": 400, "linked, wrong": 250, "linked, 12": 50,
+    "linked, 13": 40, "linked, 14": 15, "linked, 15": 15, "linked, 16": 25, "linked, 17": 15, "linked, 40": 100,
+    "linked, 41": 50, "linked, 45": 30, "linked, 46": 150, "17 of the link": 10, "yes by the link": 20,
+    "10 of the ends": 40,
 }
 
 
@@ -57,14 +63,16 @@ class Bills:
         """A book and its ledger: by an opening, or by an image of a book without entries; one in eight takes few more
         entries."""
         self.settings, way = random_settings(self.dice), self.dice.random()
+        kind = self.dice.choice(kinds_of(self.settings))
+        self.met[link_kind(self.settings)] += 1
         if way < 0.5:
             self.book, self.ledger = by_opening(self.settings)
         elif way < 0.875:
             self.settings = replace(self.settings, threshold=near_hundreds(self.dice))
-            self.book, self.ledger = by_image(self.settings)
+            self.book, self.ledger = by_image(self.settings, kind)
         else:
             self.ledger = Ledger(self.settings, 10_000_000 - self.dice.randint(0, 9))
-            self.book = Book.load(image_of(self.ledger, least_kind(self.settings)))
+            self.book = Book.load(image_of(self.ledger, kind))
 
     def entry(self, number):
         """A random one by the limits and the threshold that are set now."""
@@ -82,7 +90,7 @@ class Bills:
             for machine in (self.book, self.ledger):
                 machine.set_limits(*limits)
         if self.dice.random() < 0.3:
-            self.book = Book.load(self.book.store())
+            self.book = Book.load(stored(self.book, self.dice.choice(kinds_of(self.settings))))
 
     def begin(self):
         """A day of 0 to 8 intervals, some longer, as the ledger plays it. The one that goes on from the record and ring
@@ -207,6 +215,7 @@ class Bills:
         if answer.number == 10:
             said = "10 mid-way" if days else "10 first"
         self.met[f"forged, {said}"] += 1
+        self.met["10 of the ends"] += ends_alone(book)
         if said == "10 mid-way":
             rest = given[len(days[0].entries) * interval.length(book):]
             self.met["mid-way before a broken record"] += isinstance(number_of(self.read, book, rest), int)
@@ -220,6 +229,10 @@ class Bills:
     def count(self, answer, day, region, lines):
         """What a bill of a sound book showed."""
         intervals, energy = len(day.entries), region * (self.settings.services + 1)
+        if link_of(self.settings):
+            self.met[f"linked, {answer.number or ('yes' if answer.right else 'wrong')}"] += 1
+            self.met["17 of the link"] += (answer.number, answer.place) == (17, self.settings.regions)
+            self.met["yes by the link"] += answer.right and self.by_the_link(energy)
         if answer.number:
             self.look_at_refusal(answer, day, energy, lines)
         elif answer.right:
@@ -230,6 +243,13 @@ class Bills:
             self.met["surplus"] += 1
         else:
             self.met["wrong at 0" if answer.line == 0 else "wrong in the middle"] += 1
+
+    def by_the_link(self, energy):
+        """Whether the day's published prices would be others, if the link carried nothing."""
+        history, tables = self.ledger.history(), []
+        for each in self.day.entries:
+            tables.append(history.enter(*each._replace(flows=[*each.flows[:-1], 0]), self.schedule)[1])
+        return any(table[energy] != other[energy] for table, other in zip(self.day.tables, tables))
 
     def look_at_refusal(self, answer, day, energy, lines):
         """What a refusal came before, and 46 behind."""

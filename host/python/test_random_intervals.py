@@ -13,7 +13,7 @@ from held import Held, any_interval
 from interval import Interval
 from ledger import NONE
 from link import link_of
-from linked import LINKS, damaged_links, linked, pieces_of
+from linked import damaged_links, ends_alone, linked, odd_ends, pieces_of
 from starts import by_opening
 from test_intervals import due_write, library_write, number_of, right_lengths
 from test_random import outcome, random_entry
@@ -37,19 +37,24 @@ MET = {
     "read 0": 4_000, "read 10": 1_000, "read 11": 300, "read 40": 2_000, "read 41": 1_000, "read 45": 2_000,
     "write 0": 4_000, "write 10": 300, "write 11": 300, "write 23": 1_500,
     "rewrite 0": 4_000, "rewrite 10": 1_000, "rewrite 23": 2_000, "rewrite 40": 2_000, "rewrite 41": 1_000,
-    "rewrite 42": 300, "10 before 23": 200, "23 before a record": 1_000,
+    "rewrite 42": 200, "10 before 23": 200, "23 before a record": 1_000,
     "0, rewritten 0": 1_000, "40, rewritten 40": 1_500, "41, rewritten 41": 800, "45, rewritten 0": 700,
-    "45, rewritten 40": 150, "45, rewritten 41": 50, "45, rewritten 42": 300,
+    "45, rewritten 40": 150, "45, rewritten 41": 50, "45, rewritten 42": 200,
     "two of one entry": 500, "all rewritten": 300, "entered": 600,
+    "10 of the ends": 150, "entered with the link": 250,
+    "linked, read 0": 600, "linked, read 11": 150, "linked, read 40": 1_000, "linked, read 41": 600,
+    "linked, read 45": 1_000, "linked, write 0": 1_500, "linked, write 11": 150, "linked, write 23": 700,
+    "linked, rewrite 0": 900, "linked, rewrite 23": 1_000, "linked, rewrite 40": 900, "linked, rewrite 41": 500,
+    "linked, rewrite 42": 100,
 }
 
 
-def random_settings(dice, links=LINKS):
+def random_settings(dice):
     regions = dice.randint(1, 8)
     parents = [dice.choice((NONE, *range(region))) if region < regions else NONE for region in range(8)]
     settings = Settings(regions, dice.randint(0, 10), dice.choice((1, 2, 3)), 1, dice.randrange(6), parents, 90_000,
                         60_000, -60_000)
-    return linked(dice, settings, links)
+    return linked(dice, settings)
 
 
 def random_interval(dice, settings, number):
@@ -86,10 +91,10 @@ def with_region(dice, regions, piece):
     return piece[:6] + bytes([dice.choice((regions, 255, dice.randrange(regions)))]) + piece[7:]
 
 
-def damaged(dice, settings, pieces, links=LINKS):
-    """Records of which one is wrong, cut, missing, given twice, or where another one was. With links, in one in three
-    it is the additional link's, or one like it where there is none."""
-    if links and dice.random() < 0.33:
+def damaged(dice, settings, pieces):
+    """Records of which one is wrong, cut, missing, given twice, or where another one was. In one in three it is the
+    additional link's, or one like it where there is none."""
+    if dice.random() < 0.33:
         return damaged_links(dice, pieces)
     chosen = dice.randrange(len(pieces)) if pieces else 0
     before, piece, after = pieces[:chosen], pieces[chosen:chosen + 1], pieces[chosen + 1:]
@@ -118,15 +123,18 @@ def random_place(dice, settings, pieces):
 
 
 def damaged_book(dice, book):
-    """A closed book, or the record with a byte changed or with up to three fields at their ends or beyond."""
-    record, way = bytearray(book), dice.randrange(10)
+    """A closed book, or the record with a byte changed, with other ends of the link, or with up to three fields at
+    their ends or beyond."""
+    record, way = bytearray(book), dice.randrange(11)
     if way == 0:
         return type(book)()
     if way < 4:
         record[dice.choice((0, 1, dice.randrange(72), dice.randrange(len(record))))] = dice.randrange(256)
     changed = type(book).from_buffer_copy(record)
-    for _ in range(dice.randint(1, 3) if way >= 4 else 0):
-        name = dice.choice([name for name in ENDS if hasattr(changed, name)])
+    if way == 10:
+        changed.from_, changed.to = odd_ends(dice, book)
+    for _ in range(dice.randint(1, 3) if 4 <= way < 10 else 0):
+        name = dice.choice([*ENDS])
         field, value = getattr(changed, name), dice.choice(ENDS[name])
         if isinstance(field, int):
             setattr(changed, name, value)
@@ -199,6 +207,7 @@ class Calls:
             answer = outcome(self.book.enter, *found, schedule)
             self.test.assertEqual(answer, outcome(self.ledger.enter, *given, schedule), given)
             self.met["entered"] += answer[0] == "accepted"
+            self.met["entered with the link"] += answer[0] == "accepted" and link_of(self.settings)
 
     def lent_book(self):
         """The book, and what a slice's lengths are by it or by the book that it was before it was damaged."""
@@ -207,6 +216,7 @@ class Calls:
         if self.dice.random() < 0.15:
             book = damaged_book(self.dice, book)
             lengths = self.dice.choice((lengths, right_lengths(book)))
+            self.met["10 of the ends"] += ends_alone(book)
         return book, lengths
 
     def damaged_pieces(self):
@@ -222,6 +232,7 @@ class Calls:
             lengths[place] = max(0, lengths[place] + dice.choice((-100, -1, 1, 2)))
         records, at = b"".join(pieces), random_place(dice, self.settings, pieces)
         number = self.held.read(book, records, at, lengths)[0]
+        self.count(book, f"read {number}")
         self.calls += 1
         self.rewrite(book, records, at, number)
         if lengths == right_lengths(book):
@@ -230,6 +241,11 @@ class Calls:
             if number == 0:
                 self.trip(book, found.interval, records[at:found.next])
 
+    def count(self, book, what):
+        """Once more, of a book with the link that isn't damaged; of that 10 is all that there is."""
+        if link_of(book) and not what.endswith(" 10"):
+            self.met[f"linked, {what}"] += 1
+
     def rewrite(self, book, records, at, read):
         """Whatever was read, by this number, is rewritten: by the method, and into room that suffices, or not."""
         exact, lent = interval.length(book), Book(book, self.book._ring)
@@ -237,6 +253,7 @@ class Calls:
         self.test.assertEqual(number_of(lent.rewrite_interval, records, at), due)
         room = exact + self.dice.choice((0, 0, 0, self.dice.randint(1, 9), 400, -1, -self.dice.randint(1, exact)))
         number, form = self.held.rewrite(book, records, at, min(room, MOST_ROOM))
+        self.count(book, f"rewrite {number}")
         self.met["10 before 23"] += number == 10 and room < exact
         self.met["23 before a record"] += number == 23 and isinstance(due, int)
         if read not in (10, 11) and number != 23:
@@ -256,6 +273,7 @@ class Calls:
         answer = library_write(book, entry, room)
         self.test.assertEqual(answer, due_write(book, entry, room), (self.settings, entry, room))
         self.met[f"write {answer[0]}"] += 1
+        self.count(book, f"write {answer[0]}")
         return answer
 
     def write(self):

@@ -8,15 +8,17 @@ from dataclasses import replace
 
 from book import LARGEST_SUM
 from guxhamole import Book
-from image import image_of, least_kind
+from image import image_of
 from ledger import Entry, Ledger
-from starts import by_image, by_opening, with_threshold
+from link import link_of
+from linked import ends_alone, kinds_of, link_kind
+from starts import by_image, by_opening, stored, with_threshold
 from test_left import due_left, entered, first_above, library_left
 from test_random import near_hundreds, outcome, random_entry, random_price, random_settings, random_threshold
 from test_random_intervals import damaged_book
 
 SEED = 7
-QUESTIONS = 14_000
+QUESTIONS = 20_000
 WINDOWS = (1, 2, 3, 4, 6, 9)
 LONG = (30, 45)  # beside these; a list of calls turns them round too
 MOST_PLACES = 1_000  # of a ring that is made for a damaged book
@@ -27,6 +29,7 @@ MET = {
     "reached before": 200, "not above after W": 200, "above now, and 0": 100, "turned round": 500, "not full": 500,
     "last marked": 200, "restarted": 200, "no more entries": 50, "entered": 1_000, "another order": 20,
     "long window": 200, "begun by an image": 50, "brought": 200, "set": 100, "set refused": 200, "no multiple": 1_000,
+    "no link": 150, "a ring": 120, "two trees joined": 100, "with the link": 3_000, "10 of the ends": 70,
 }
 
 
@@ -120,15 +123,17 @@ class Questions:
         a book that has taken nearly all entries."""
         window, way = self.dice.choice(LONG if self.dice.random() < 0.05 else WINDOWS), self.dice.random()
         self.settings = replace(random_settings(self.dice), window=window)
+        kind = self.dice.choice(kinds_of(self.settings))
+        self.met[link_kind(self.settings)] += 1
         if way < 0.5:
             self.book, self.ledger = by_opening(self.settings)
         elif way < 0.9:
             self.settings = replace(self.settings, threshold=near_hundreds(self.dice))
-            self.book, self.ledger = by_image(self.settings)
+            self.book, self.ledger = by_image(self.settings, kind)
             self.met["begun by an image"] += 1
         else:
             self.ledger = Ledger(self.settings, 10_000_000 - self.dice.randint(0, 2 * window))
-            self.book = Book.load(image_of(self.ledger, least_kind(self.settings)))
+            self.book = Book.load(image_of(self.ledger, kind))
 
     def enter(self):
         """On both, or refused by both; what an entry publishes is test_random.py's to compare."""
@@ -149,14 +154,18 @@ class Questions:
     def bring_threshold(self, threshold):
         """By an image with the book's entries and this threshold, whatever it is. No list of the ledger's begins with
         it, so the ledger is told."""
-        self.book = Book.load(with_threshold(self.book.store(), threshold))
+        self.book = Book.load(with_threshold(self.image(), threshold))
         now = self.ledger.settings[-1]
         self.ledger.settings.append(now._replace(entries=self.ledger.taken, threshold=threshold))
         self.met["brought"] += 1
 
+    def image(self):
+        """The book's, of a kind that tells it."""
+        return stored(self.book, self.dice.choice(kinds_of(self.settings)))
+
     def restart(self):
         """The ledger does not see it."""
-        self.book = Book.load(self.book.store())
+        self.book = Book.load(self.image())
         self.met["restarted"] += 1
 
     def question(self):
@@ -200,6 +209,7 @@ class Questions:
         self.phases.add((window, record.counts[region], record.nexts[region]))
         self.met["turned round"] += len(prices) == window and record.nexts[region] != 0
         self.met["not full"] += len(prices) < window
+        self.met["with the link"] += link_of(self.settings)
         self.met["long window"] += window in LONG
         self.met["last marked"] += self.ledger.taken > 0 and self.ledger.entries[-1].marks[region] == 1
         self.met["no multiple"] += threshold % 10_000 != 0
@@ -221,6 +231,7 @@ class Questions:
         self.questions += 1
         self.test.assertEqual(answer, due_left(book, ring, *question), (self.settings, way.__name__, question))
         self.met[f"damaged {answer[0]}"] += 1
+        self.met["10 of the ends"] += ends_alone(book)
         if way is with_next_place and answer[0] == 0:
             self.met["another order"] += answer[1] != self.book.intervals_left(*question)
 

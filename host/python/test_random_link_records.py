@@ -1,6 +1,6 @@
 """Random records, test loads and days with the additional link (request 2026-10 of document 02), from a fixed seed: the
-independent reader, writer, rewriter, draw and bill check, of `kit` as in test_links.py, held to round trips, to a
-second reader, and to what a ledger that tries every order of regions as a route publishes."""
+reader, writer, rewriter, draw and bill check of `kit`, as in test_links.py, held to round trips, to a second reader and
+to what a ledger that tries every order of regions as a route publishes."""
 
 import random
 import unittest
@@ -76,7 +76,7 @@ class Records:
 
     def open(self):
         """A book of any size with one to three intervals, in half of them regions in another order."""
-        kit, self.settings = self.kit, opening_of(random_settings(self.dice, True))
+        kit, self.settings = self.kit, opening_of(random_settings(self.dice))
         image = kit.image.image_of(kit.ledger.Ledger(self.settings), 2)
         places = self.settings.regions * (self.settings.services + 1) * self.settings.window
         self.book, _ = kit.record.load(image, places)
@@ -107,7 +107,7 @@ class Records:
         """Reader and rewriter on damaged records, on a sound book or not."""
         book, pieces, interval = self.book, self.pieces, self.kit.interval
         for _ in range(self.dice.choice((0, 1, 1, 2))):
-            pieces = damaged(self.dice, self.settings, pieces, True)
+            pieces = damaged(self.dice, self.settings, pieces)
         if self.dice.random() < 0.1:
             book = damaged_book(self.dice, book)
         given, at = b"".join(pieces), random_place(self.dice, self.settings, pieces)
@@ -185,7 +185,7 @@ class Days:
 
     def open(self):
         """A book after some entries, its day, and what the ledger that tries every order publishes of it."""
-        self.settings = opening_of(small_settings(self.dice, True, (2, 3, 3, 4, 5)))
+        self.settings = opening_of(small_settings(self.dice, (2, 3, 3, 4, 5)))
         self.ledger = self.kit.ledger.Ledger(self.settings)
         permuted = Permuted(self.settings)
         for number in range(self.dice.choice((0, 1, 2, 4))):

@@ -1,6 +1,6 @@
 """Random lists of calls on books with the additional link (request 2026-10 of document 02), from a fixed seed, with
-restarts by images of either kind: the independent code, of `kit` as in test_links.py, held to a ledger that tries every
-order of regions as a route; and random images of both kinds, held to a second verdict."""
+restarts by images of either kind: the code of `kit`, as in test_links.py, held to a ledger that tries every order of
+regions as a route; and random images of both kinds, held to a second verdict."""
 
 import random
 import unittest
@@ -11,7 +11,7 @@ from book import refuse_book
 from image import image_of
 from ledger import Entry, Ledger
 from link import link_of
-from linked import closes_ring, opening_of, with_ends
+from linked import kinds_of, link_kind, opening_of, with_ends
 from permuted import Cents, Permuted, Relaxed, Unlinked, as_if, ends_allowed
 from record import named
 from test_random import bad_settings, damage, damaged_image, near_hundreds, random_entry, random_limits, random_settings
@@ -21,7 +21,7 @@ SEED = 10
 LISTS = {
     "accepted": 4_000, 11: 200, 13: 80, 14: 80, 15: 80, 16: 60, 17: 80, "17 of the link": 20, 20: 120, 21: 120,
     "restarted by kind 1": 80, "restarted by kind 2": 200, 47: 200, "47 before 23": 60, 23: 100, "23 before 11": 30,
-    "load's 11": 60, "without": 40, "closing": 50, "joining": 40, "without entries": 20,
+    "load's 11": 60, "no link": 40, "a ring": 50, "two trees joined": 40, "without entries": 20,
     "power round a ring": 100, "two routes bind": 25, "the link binds": 120, "floors over the link": 60,
     "a relaxing loop": 40, "cents a link": 50, "flow the other way": 200,
 }
@@ -34,7 +34,7 @@ def said(call, *arguments):
     try:
         return "accepted", call(*arguments)
     except Exception as refused:
-        if type(refused).__name__ != "Refused":
+        if type(refused).__name__ not in ("Refused", "Refusal"):
             raise
         return "refused", refused.number, refused.place
 
@@ -86,7 +86,7 @@ class Lists:
     def open(self):
         """By an opening, or by an image of kind 2, which may hold another threshold."""
         regions = (8,) if self.dice.random() < 0.03 else (2, 3, 3, 4, 4, 5)
-        self.settings = opening_of(random_settings(self.dice, True, regions))
+        self.settings = opening_of(random_settings(self.dice, regions))
         if self.dice.random() < 0.5:
             self.machine = self.kit.ledger.Ledger.open(self.settings)
         else:
@@ -94,9 +94,7 @@ class Lists:
             image = self.kit.image.image_of(self.kit.ledger.Ledger(self.settings), 2)
             self.machine = self.kit.image.begun(image)
         self.ledger = Permuted(self.settings)
-        ends = self.settings[-2:]
-        self.met["without" if not link_of(self.settings) else
-                 "closing" if closes_ring(self.settings, ends) else "joining"] += 1
+        self.met[link_kind(self.settings)] += 1
 
     def on_both(self, name, *arguments):
         return self.compare(said(getattr(self.machine, name), *arguments), said(getattr(self.ledger, name), *arguments),
@@ -109,7 +107,8 @@ class Lists:
         while self.dice.random() < 0.3:
             damage(self.dice, entry)
         if link_of(settings) and entry[5] and self.dice.random() < 0.04:
-            for place in (len(entry[5]) - 1, self.dice.randrange(len(entry[5]))):
+            last = len(entry[5]) - 1
+            for place in sorted({last, self.dice.choice((last, self.dice.randint(0, last)))}):
                 entry[5][place] = self.dice.choice((0, 9_999, 20_001, 2**32 - 1))
         if said(self.ledger.refuse_entry, Entry(*entry))[0] == "accepted" and link_of(settings):
             self.look_at(Entry(*entry), as_if(Permuted, self.ledger, entry))
@@ -184,7 +183,7 @@ class Lists:
 
     def bad_open(self):
         """20 of the ends is before all but the other settings' 20."""
-        settings = bad_settings(self.dice, True)
+        settings = bad_settings(self.dice)
         without = said(Ledger.open, with_ends(settings, (255, 255)))
         due = without if without[1] == 20 or ends_allowed(settings) else ("refused", 20, None)
         answer = said(self.kit.ledger.Ledger.open, settings)
@@ -212,7 +211,7 @@ class Images:
 
     def book(self):
         """A random book's ledger, after some entries."""
-        settings = opening_of(random_settings(self.dice, True))
+        settings = opening_of(random_settings(self.dice))
         ledger = Ledger(settings._replace(window=min(settings.window, 3)))
         for number in range(self.dice.choice((0, 1, 2, 3))):
             ledger.entries.append(Entry(*random_entry(self.dice, ledger.opening, number)))
@@ -220,14 +219,13 @@ class Images:
 
     def images_of(self, ledger):
         """By both kinds, where both take it."""
-        kinds = (2,) if link_of(ledger.opening) else (1, 2)
-        for kind in kinds:
+        for kind in kinds_of(ledger.opening):
             image = image_of(ledger, kind)
             self.hold(image, image)
             for _ in range(6):
-                damaged = damaged_image(self.dice, image, True)
+                damaged = damaged_image(self.dice, image)
                 self.hold(image, damaged)
-                self.hold(image, damaged_image(self.dice, damaged, True) if len(damaged) > 160 else damaged)
+                self.hold(image, damaged_image(self.dice, damaged) if len(damaged) > 160 else damaged)
 
     def hold(self, image, damaged):
         """The verdict; what is taken is loaded, and stored by its kind to the same bytes."""

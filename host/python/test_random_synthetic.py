@@ -11,7 +11,7 @@ import synthetic
 from guxhamole import Book, Settings
 from ledger import NONE, Ledger
 from link import link_of
-from linked import LINKS, linked
+from linked import ends_alone, linked
 from starts import blank_image
 from test_intervals import right_lengths
 from test_random import outcome
@@ -29,15 +29,17 @@ MET = {
     "drawn 0": 14_000, "drawn 10": 1_500, "drawn 11": 2_000, "both wrong": 1_000, "changed within limits": 200,
     "of 1500000": 1_000, "of -1936": 396, "fresh": 3_000, "with history": 5_000, "with a period": 5_000, "full": 3_000,
     "entered 0": 500, "entered 12": 500, "entered 13": 500, "entered 14": 500, "entered, mended": 1_500,
+    "linked, drawn 0": 7_000, "linked, drawn 11": 1_000, "linked, entered": 1_000, "10 of the ends": 100,
 }
-SHOWN = {"entered": 600, "begun": 100, "ended": 50, "bound": 50, "highest price": 50, "turned round": 300}
+SHOWN = {"entered": 600, "begun": 100, "ended": 50, "bound": 50, "highest price": 50, "turned round": 300,
+         "linked": 250}
 
 
-def random_settings(dice, regions, services, links=LINKS):
+def random_settings(dice, regions, services):
     parents = [dice.choice((NONE, *range(region))) if region < regions else NONE for region in range(8)]
     settings = Settings(regions, services, dice.choice((1, 2, 3)), 1, dice.randrange(6), parents, 10_000, 60_000,
                         -60_000)
-    return linked(dice, settings, links)
+    return linked(dice, settings)
 
 
 def turning(dice):
@@ -81,6 +83,8 @@ class Draws:
         """The library's answer and synthetic.py's; the answer's number."""
         answer = compared(self.test, book, lengths, *lent)
         self.met[f"drawn {answer[0]}"] += 1
+        if link_of(book) and answer[0] != 10:
+            self.met[f"linked, drawn {answer[0]}"] += 1
         for price in (1_500_000, -1_936):
             self.met[f"of {price}"] += answer[5].count(price)
         return answer[0]
@@ -116,6 +120,7 @@ class Draws:
         answer = outcome(book.enter, *interval, self.schedule)
         self.test.assertEqual(answer[:2], ("refused", due) if due else ("accepted", answer[1]), interval)
         self.met[f"entered {due}"] += 1
+        self.met["linked, entered"] += link_of(book) and due in (0, 13, 14)
         if due in (13, 14):
             mended = interval._replace(number=book.entries, day_kind=interval.day_kind % 2)
             self.test.assertEqual(outcome(book.enter, *mended, self.schedule)[0], "accepted", mended)
@@ -140,6 +145,7 @@ class Draws:
         damaged = damaged_book(self.dice, sound)
         number = self.compare(damaged, self.dice.choice((right, right_lengths(damaged))), *lent)
         self.met["changed within limits"] += number == 0
+        self.met["10 of the ends"] += ends_alone(damaged)
         number = self.compare(damaged, self.wrong_lengths(right_lengths(damaged)), *lent)
         self.met["both wrong"] += number == 10
 
@@ -201,6 +207,7 @@ class Lists:
         before, self.periods = self.periods or [False] * len(reports), [report.administered for report in reports]
         changes = Counter(zip(before, self.periods))
         self.met["entered"] += 1
+        self.met["linked"] += link_of(self.settings)
         self.met["begun"] += changes[False, True]
         self.met["ended"] += changes[True, False]
         self.met["bound"] += entered.count
