@@ -8,6 +8,7 @@ import guxhamole
 import interval
 from arithmetic import Refused
 from guxhamole import Book, Settings
+from link import NO_LINK
 from test_intervals import MARGIN as SLICE_MARGIN
 from test_intervals import due_read, library_read, right_lengths, tripled
 
@@ -112,9 +113,9 @@ class Held:
             self.test.assertGreaterEqual(self.met[what], times, what)
 
 
-def shaped(regions, services):
-    """A book of this size, in which nothing else matters to records."""
-    return Book.open(Settings(regions, services, 1, 1, 0, [255] * 8, 90_000, 60_000, -60_000))
+def shaped(regions, services, ends=NO_LINK):
+    """A book of this size and with this link, in which nothing else matters to records."""
+    return Book.open(Settings(regions, services, 1, 1, 0, [255] * 8, 90_000, 60_000, -60_000, *ends))
 
 
 def any_interval(dice, regions, services, link=0):

@@ -3,6 +3,7 @@ lent and what stands around it, and every refusal in its order; test_bill_lines.
 
 import unittest
 from ctypes import c_int32
+from dataclasses import replace
 
 import bill
 import guxhamole
@@ -36,6 +37,8 @@ OVER = Line(9, 2**32 - 1, 60_000, 60)
 TWO = (of(0, 1, 1), of(1, 1, 1, marks=[0, 2]))
 HALVES = recorded(ONE, of(0, -500), of(1, 500))
 MARKED = recorded(ONE, of(0, 5, marks=[1]), of(1, 5, marks=[1], day_kind=1))
+RING = replace(CHAIN, from_=0, to=2)
+AROUND = [of(number, 100_000, 90_000, 85_000, flows=[number] * 4, factors=[11_000] * 4) for number in range(2)]
 GUIDE = [of(number, 100_000, 90_000, 85_000, flows=[0, number, number], factors=[0, 11_000, 10_800])
          for number in range(2)]
 
@@ -150,6 +153,34 @@ class Cases(Compared):
             for billed, others in enumerate(published):
                 answer = YES if billed == region else wrong(0)
                 self.on_all(book, recorded(CHAIN, *GUIDE), [0] * 6, billed, lines, answer, after, ledger)
+
+    def test_each_region_of_a_ring(self):
+        """Of a book with the additional link (request 2026-10): a limit goes once round, on the bill of each region."""
+        book, ledger = by_opening(RING)
+        after = [100_000, 90_000, 85_000]
+        for region, (entered, price) in enumerate(((100_000, 60_000), (90_000, 54_545), (85_000, 49_587))):
+            lines = [Line(0, 1_000, entered, entered), Line(1, 1_000, price, price)]
+            self.on_all(book, recorded(RING, *AROUND), [0] * 6, region, lines, YES, after, ledger)
+            for other in (price + 1, price - 1, 45_079, 49_586):
+                changed = [lines[0], Line(1, 1_000, other, other)]
+                self.on_all(book, recorded(RING, *AROUND), [0] * 6, region, changed, wrong(1), after, ledger)
+
+    def test_refused_of_a_ring(self):
+        """17 at place R; a link's record missing, cut short, of another length, or where another one is due."""
+        book, ledger = by_opening(RING)
+        first, records = [100_000, 90_000, 85_000], recorded(RING, *AROUND)
+        for factors, place in (([0, 11_000, 11_000, 9_999], 3), ([0, 11_000, 20_001, 9_999], 2), ([0] * 4, 1)):
+            bad = recorded(RING, AROUND[0], AROUND[1]._replace(factors=factors))
+            self.on_all(book, bad, [0] * 6, 0, [], refused(17, place), first, ledger)
+        size = len(records) // 2
+        for given, number in ((records[:-14], 40), (records[:-1], 40), (records[:-14] + b"\x0f" + records[-13:], 40),
+                              (records[:-14] + records[-34:-14], 41), (records + records[-14:], 41)):
+            self.on_all(book, given, [0] * 6, 0, [], refused(number), first, ledger)
+        without = records[:size - 14] + records[size:]
+        self.on_all(book, without, [0] * 6, 0, [], refused(41), [0] * 3, ledger)
+        self.on_all(book, recorded(CHAIN, *GUIDE), [0] * 6, 0, [], refused(41), [0] * 3, ledger)
+        chain, ledger = by_opening(CHAIN)
+        self.on_all(chain, records, [0] * 6, 0, [], refused(41), first, ledger)
 
     def test_amounts(self):
         """One interval at each price, and beside the amount a cent more and less."""

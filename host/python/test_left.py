@@ -262,7 +262,8 @@ class Refusals(unittest.TestCase):
         self.refused(10, guxhamole._Book(), self.ring, 0, 0, 0)
         wrong = (("regions", None, 9), ("threshold", None, 0), ("window", None, 2017), ("entries", None, 10_000_001),
                  ("counts", 1, 4), ("nexts", 0, 1), ("nexts", 1, 3), ("sums", 0, 20_160_000_001), ("sums", 2, 1),
-                 ("marks", 0, 2), ("position", None, 6), ("cap", None, 0), ("parents", 0, 0))
+                 ("marks", 0, 2), ("position", None, 6), ("cap", None, 0), ("parents", 0, 0), ("from_", None, 0),
+                 ("to", None, 1), ("from_", None, 254))
         for field in wrong:
             with self.subTest(field):
                 self.refused(10, self.changed(*field), self.ring, 0, 0, 0)
@@ -318,13 +319,17 @@ class Refusals(unittest.TestCase):
                     self.assertEqual(number_of(self.book.intervals_left, region, market, price)[0], number)
 
     def test_what_is_not_looked_at(self):
-        """Period marks, position, entries taken, cap and floor."""
+        """Period marks, position, entries taken, cap and floor, and the additional link."""
         before = self.refused(0, self.raw, self.ring, 1, 0, 3_000)
         fields = (("marks", 11, 1), ("marks", 0, 1), ("position", None, 0), ("position", None, 5), ("cap", None, 1),
                   ("floor", None, -1), ("entries", None, 3), ("entries", None, 10_000_000))
         for field in fields:
             with self.subTest(field):
                 self.assertEqual(self.refused(0, self.changed(*field), self.ring, 1, 0, 3_000), before)
+        for ends in ((0, 1), (1, 0)):
+            linked = self.changed("from_", None, ends[0])
+            linked.to = ends[1]
+            self.assertEqual(self.refused(0, linked, self.ring, 1, 0, 3_000), before)
 
     def test_ten_million_entries(self):
         """A book that takes no more entries is asked as any other."""

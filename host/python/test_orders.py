@@ -8,7 +8,8 @@ from itertools import permutations, product
 import interval
 from guxhamole import Book
 from held import Held, any_interval, shaped
-from test_intervals import B2, FIRST, HEAD, SECOND, I, U, of_region
+from link import NO_LINK, link_of
+from test_intervals import B2, FIRST, HEAD, LINK, SECOND, I, U, of_region
 
 
 class Orders(unittest.TestCase):
@@ -18,16 +19,17 @@ class Orders(unittest.TestCase):
         self.dice = random.Random(8)
         self.held = Held(self)
 
-    def given(self, regions, services):
+    def given(self, regions, services, ends=NO_LINK):
         """A book, the records of an interval of any numbers, and what the writer makes of it."""
-        book, entry = shaped(regions, services), any_interval(self.dice, regions, services)
+        book = shaped(regions, services, ends)
+        entry = any_interval(self.dice, regions, services, link_of(book))
         form = book.write_interval(*entry)
         self.assertEqual(form, b"".join(interval.records(book._book, entry)))
         return book, list(interval.records(book._book, entry)), form
 
-    def ordered(self, book, head, rows, form, more):
-        """Rows in some order: the one form, which alone is read as it stands."""
-        records = head + b"".join(rows)
+    def ordered(self, book, head, rows, form, more, behind=b""):
+        """Rows in some order: the one form, which alone is read as it stands. Behind them is the link's record."""
+        records = head + b"".join(rows) + behind
         numbers = self.held.both(book._book, records, more=more)
         self.assertEqual(numbers, (0 if records == form else 45, 0))
         self.assertEqual(book.rewrite_interval(records), (form, len(form)))
@@ -39,6 +41,19 @@ class Orders(unittest.TestCase):
             for order in permutations(rows):
                 self.ordered(book, head, order, form, self.dice.choice((0, 0, 7)))
         self.held.show("all orders", {"orders": 1_899, "read 0": 17, "read 45": 1_882})
+
+    def test_all_orders_with_the_link(self):
+        """The link's record stays behind the last region; anywhere before, it is 41 where a region is due."""
+        for regions, services, ends in [*product((2, 3, 4), (0, 1, 10), ((0, 1), (1, 0))), (5, 1, (4, 0))]:
+            book, (head, *rows, behind), form = self.given(regions, services, ends)
+            for order in permutations(rows):
+                self.ordered(book, head, order, form, self.dice.choice((0, 0, 7)), behind)
+                for place in range(regions):
+                    records = head + b"".join((*order[:place], behind, *order[place:]))
+                    _, rewritten = self.held.both(book._book, records)
+                    self.assertEqual(rewritten, 41)
+        self.held.show("all orders with the link", {"orders": 312, "read 0": 19, "read 41": 60, "45, rewritten 0": 293,
+                                                    "45, rewritten 41": 800})
 
     def test_random_orders(self):
         for regions, services in product((6, 7, 8), range(11)):
@@ -69,10 +84,12 @@ class Orders(unittest.TestCase):
 
 
 class Damaged(unittest.TestCase):
-    """Both orders of a small interval, cut and changed everywhere, with whole intervals behind and before."""
+    """Both orders of a small interval, cut and changed everywhere, with whole intervals behind and before; and the same
+    of a book with the additional link, whose record is behind."""
 
     def setUp(self):
         self.raw = Book.open(B2)._book
+        self.linked = shaped(2, 0, (1, 0))._book
         self.held = Held(self)
 
     def test_every_cut(self):
@@ -80,7 +97,11 @@ class Damaged(unittest.TestCase):
             for end in range(len(records) + 1):
                 for at in (0, 52):
                     self.held.both(self.raw, records[:end], at)
-        self.held.show("every cut", {"read 40": 400, "rewrite 0": 100})
+        for records in (I + LINK, U + LINK, I + LINK + U + LINK, I + LINK + LINK):
+            for end in range(len(records) + 1):
+                for at in (0, 66):
+                    self.held.both(self.linked, records[:end], at)
+        self.held.show("every cut", {"read 40": 700, "rewrite 0": 180})
 
     def test_every_byte(self):
         """To every value where it tells the record, and to many where it tells the entry alone."""
@@ -94,6 +115,17 @@ class Damaged(unittest.TestCase):
         self.held.show("every byte", {"read 0": 1_600, "read 40": 5_000, "read 41": 3_000, "45, rewritten 0": 1_600,
                                       "45, rewritten 40": 1_000, "45, rewritten 41": 500, "45, rewritten 42": 1_000})
 
+    def test_every_byte_of_the_link(self):
+        """Likewise of the link's record, in both orders of the regions before it."""
+        for before, place in product((I, U), range(14)):
+            for value in range(256) if place < 6 else {0, 255, *range(place % 5, 256, 5)}:
+                numbers = self.held.both(self.linked, before + LINK[:place] + bytes([value]) + LINK[place + 1:])
+                if place >= 6:
+                    self.assertEqual(numbers, (0 if before == I else 45, 0))
+        self.held.show("every byte of the link", {"read 0": 400, "read 40": 1_000, "read 41": 500,
+                                                  "45, rewritten 0": 400, "45, rewritten 40": 1_000,
+                                                  "45, rewritten 41": 500})
+
     def test_every_front(self):
         """Lengths and kinds at each record of both orders, with enough behind."""
         lengths = (0, 5, 6, 11, 12, 13, 19, 20, 21, 24, 40, 52, 255, 256 + 12, 2**16 + 20, 2**24 + 12, 2**31, 2**32 - 1)
@@ -101,7 +133,12 @@ class Damaged(unittest.TestCase):
             changed = records[:place] + interval.FRONT.pack(size, kind) + records[place + 6:] + bytes(300)
             self.held.both(self.raw, changed)
             self.held.both(self.raw, I + changed, 52)
-        self.held.show("every front", {"read 40": 500, "read 41": 200, "45, rewritten 41": 50, "45, rewritten 40": 50})
+        for records, place, size, kind in product((I + LINK, U + LINK), (0, 12, 32, 52), (*lengths, 14, 15),
+                                                  (0, 16, 17, 18, 19, 274)):
+            changed = records[:place] + interval.FRONT.pack(size, kind) + records[place + 6:] + bytes(300)
+            self.held.both(self.linked, changed)
+        self.held.show("every front", {"read 40": 1_000, "read 41": 800, "45, rewritten 41": 150,
+                                       "45, rewritten 40": 200})
 
 
 class OneForm(unittest.TestCase):

@@ -257,10 +257,11 @@ class Days:
 class RandomLinkRecords(unittest.TestCase):
     kit = edition.loaded()
     reads, bills, whole = 5_000, 1_500, True
+    whose = ""  # of which code
 
     def show(self, name, count, met, least):
         if self.whole:
-            print(f"{name}: {count}, met: " + ", ".join(f"{what} {met[what]}" for what in least))
+            print(f"{self.whose}{name}: {count}, met: " + ", ".join(f"{what} {met[what]}" for what in least))
             for what, times in least.items():
                 self.assertGreaterEqual(met[what], times, what)
 

@@ -267,11 +267,12 @@ class Images:
 class RandomLinks(unittest.TestCase):
     kit = edition.loaded()
     calls, images, whole = 9_000, 4_000, True
+    whose = ""  # of which code
 
     def show(self, name, count, met, least):
         """How often each was met, at least so often; of wrong code it isn't asked."""
         if self.whole:
-            print(f"{name}: {count}, met: " + ", ".join(f"{what} {met[what]}" for what in least))
+            print(f"{self.whose}{name}: {count}, met: " + ", ".join(f"{what} {met[what]}" for what in least))
             for what, times in least.items():
                 self.assertGreaterEqual(met[what], times, what)
 

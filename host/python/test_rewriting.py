@@ -165,7 +165,7 @@ class Books(unittest.TestCase):
                  ("threshold", None, 0), ("window", None, 2017), ("halves", None, 49), ("entries", None, 10_000_001),
                  ("position", None, 6), ("cap", None, 0), ("floor", None, 0), ("parents", 0, 0), ("parents", 1, 1),
                  ("counts", 1, 2), ("counts", 7, 1), ("nexts", 0, 1), ("sums", 0, 20_160_000_001), ("sums", 1, 1),
-                 ("marks", 0, 2), ("marks", 87, 1))
+                 ("marks", 0, 2), ("marks", 87, 1), ("from_", None, 0), ("to", None, 0), ("from_", None, 254))
         for name, place, value in wrong:
             record = guxhamole._Book.from_buffer_copy(self.raw)
             if place is None:
@@ -183,13 +183,21 @@ class Books(unittest.TestCase):
             book = shaped(regions, services)
             exact, blank = 12 + regions * (20 + 4 * services), [0] * regions
             form = book.write_interval(7, 1, [5] * (regions * (services + 1)), blank, blank, blank)
-            for records in (form, b"", b"\xff" * exact):
-                for room in (0, exact - 4, exact - 1):
-                    self.refused(23, book._book, records, 0, room)
-            for records in (b"", b"\xff" * exact):
-                self.refused(40, book._book, records, 0, exact)
-            for more in (0, 1, 9):
-                self.assertEqual(Held(self).rewrite(book._book, form, 0, exact + more), (0, form))
+            self.every_room(book, form, exact)
+            if regions > 1:
+                book, links = shaped(regions, services, (0, regions - 1)), [9] * (regions + 1)
+                form = book.write_interval(7, 1, [5] * (regions * (services + 1)), blank, links, links)
+                self.every_room(book, form, exact + 14)
+
+    def every_room(self, book, form, exact):
+        """On a book whose intervals are so long."""
+        for records in (form, b"", b"\xff" * exact):
+            for room in (0, exact - 4, exact - 1):
+                self.refused(23, book._book, records, 0, room)
+        for records in (b"", b"\xff" * exact):
+            self.refused(40, book._book, records, 0, exact)
+        for more in (0, 1, 9):
+            self.assertEqual(Held(self).rewrite(book._book, form, 0, exact + more), (0, form))
 
     def test_refusal(self):
         for records, number in ((U[:51], 40), (HEAD + U, 41), (HEAD + FIRST + FIRST, 42)):

@@ -3,6 +3,7 @@ with nothing written, the ends of the types, and a week of the real market enter
 
 import ctypes
 import unittest
+from itertools import product
 
 import guxhamole
 import synthetic
@@ -22,6 +23,10 @@ CASES = {
     "s becomes 0": (1, 0, 634_785_765, [1_500_000], [463], [10_256], 1_196_435_762),
     "d is 63": (1, 0, 1_479_915_296, [1_500_000], [21], [11_127], 1_515_703_433),
     "d is 64": (1, 0, 1_461_063_653, [-1_936], [46], [11_072], 1_905_273_138),
+}
+# The same of a book of two regions that the additional link alone links (request 2026-10): one more pair.
+LINKED = {
+    "one more pair": (2, 0, 0, [13_470, 16_256], [682, 158, -485], [11_769, 10_750, 11_945], 2_748_932_008),
 }
 # Numbers and day kinds: handed back as they came, whether or not an entry would take them.
 HEADS = ((0, 0), (1, 1), (9, 250), (10_000_000, 2), (2**32 - 1, 255))
@@ -139,6 +144,13 @@ class Cases(unittest.TestCase):
                     book = Book.open(shaped(regions, services))
                     self.on_all(book, (seed, *head), last, Interval(*head, prices, [0] * regions, flows, factors))
 
+    def test_with_the_link(self):
+        for name, (regions, services, seed, prices, flows, factors, last) in LINKED.items():
+            for head, ends in product(HEADS, ((0, 1), (1, 0))):
+                with self.subTest(name, head=head, ends=ends):
+                    book = Book.open(Settings(regions, services, 1, 1, 0, [255] * 8, 10_000, from_=ends[0], to=ends[1]))
+                    self.on_all(book, (seed, *head), last, Interval(*head, prices, [0] * regions, flows, factors))
+
     def test_the_real_market(self):
         book = Book.open(Settings())
         last, interval = book.synthetic(2_026, 0, 0)
@@ -146,6 +158,12 @@ class Cases(unittest.TestCase):
         self.assertEqual(interval.factors, [10_066, 11_321, 10_679, 11_080, 11_468])
         self.assertEqual((last, len(interval.prices), interval.marks), (489_427_073, 55, [0] * 5))
         self.on_all(book, (2_026, 0, 0), last, interval)
+        linked = Book.open(Settings(from_=4, to=0))
+        further, one_more = linked.synthetic(2_026, 0, 0)
+        self.assertEqual((one_more.flows[:5], one_more.factors[:5]), (interval.flows, interval.factors))
+        self.assertEqual(one_more[:4], interval[:4])
+        self.assertEqual(backwards(further, 2), last)
+        self.on_all(linked, (2_026, 0, 0), further, one_more)
 
     def test_every_draw(self):
         """Every draw of an interval, each with a d that makes a difference there, or would elsewhere."""
@@ -231,7 +249,7 @@ class Refusals(unittest.TestCase):
                  ("window", None, 2017), ("halves", None, 49), ("entries", None, 10_000_001), ("position", None, 6),
                  ("cap", None, 0), ("floor", None, 0), ("parents", 0, 0), ("parents", 1, 1), ("counts", 1, 2),
                  ("counts", 7, 1), ("nexts", 0, 1), ("sums", 0, 20_160_000_001), ("sums", 2, 1), ("marks", 0, 2),
-                 ("marks", 87, 1))
+                 ("marks", 87, 1), ("from_", None, 0), ("to", None, 1), ("from_", None, 254))
         for name, place, value in wrong:
             record = guxhamole._Book.from_buffer_copy(self.raw)
             if place is None:
