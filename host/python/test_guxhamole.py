@@ -396,6 +396,15 @@ class Library(unittest.TestCase):
         self.assertEqual((names["left"], Book.load(names["saved"]).entries), (67, 1))
         self.assertEqual(Book.load(names["earlier"]).store(), names["saved"])
 
+    def test_page(self):
+        """The lines on the additional link in README.md run."""
+        page = Path(__file__).with_name("README.md").read_text(encoding="utf-8").splitlines()
+        start = next(place for place, line in enumerate(page) if "from_=4, to=0" in line)
+        names = {"Book": Book, "Settings": Settings, "prices": [5] * 55, "marks": [0] * 5, "flows": [1] * 5,
+                 "factors": [10_000] * 5, "schedule": [0] * 5_280}
+        exec("\n".join(line[4:] for line in page[start:start + 2]), names)
+        self.assertEqual((names["book"].entries, names["book"].from_, names["book"].to), (1, 4, 0))
+
 
 if __name__ == "__main__":
     unittest.main()
