@@ -1,6 +1,6 @@
 -- A restart, of a book that agrees with a ledger: stored and loaded it agrees still, and it is refused where the ledger says. Assumes nothing.
 use mathlib.Core.Path.{_≡_, refl, sym, ap, ap₂, _∙_, subst}
-use mathlib.Core.Bool.{Bool, true, false, not}
+use mathlib.Core.Bool.{Bool, true, false, not, _||_}
 use mathlib.Core.List.{List}
 use mathlib.Core.Logic.{⊎-elim}
 use Prim.Native.Nat.{ℕ, zero, suc, _+_, _*_, _-_, _≤_, _<_}
@@ -15,7 +15,7 @@ use Rattle.laws.proofs.Tests.{by-test, lt-or-ge}
 use Rattle.laws.proofs.Lists.{flat-lt, length-run}
 use Rattle.pricing.specs.Verdict.{Verdict, accepted, refused}
 use Rattle.book.specs.declared.record.Book.{Book}
-use Rattle.book.specs.Record.{closed, marketsOf, placeOf, ringSize, isAccepted}
+use Rattle.book.specs.Record.{closed, marketsOf, placeOf, ringSize, isAccepted, isLinked}
 use Rattle.book.specs.Validity.{valid}
 use Rattle.book.proofs.Validities.{Valid, valid-is}
 use Rattle.head.specs.Counted.{inOrder, howMany}
@@ -135,7 +135,7 @@ module _ (s : Held) (p : Ledger) (a : Agree s p) where
 
   -- the kind tells the book, on P's side too
   tells-agrees : (second : Bool) → allowed second p ≡ kindTells second (s .book)
-  tells-agrees second = rw (a .from)
+  tells-agrees second = ap (λ (from : ℕ). second || not (isLinked from)) (a .from)
 
   own-ring : eqb (length (s .ring)) (ringSize (s .book .regions) (s .book .services) (s .book .window)) ≡ true
   own-ring = eq-eqb _ _ (a .holds .ring-size)
