@@ -2,6 +2,7 @@
 #include "bill_calls.h"
 
 #include "guarded.h"
+#include "independent_book.h"
 #include "paged.h"
 #include "test_books.h"
 
@@ -14,7 +15,7 @@
 enum kind {
     RIGHT, RIGHT_NONE, RIGHT_CHANGED, RIGHT_HALF, WRONG_FIRST, WRONG_NUMBER, WRONG_PRICE, WRONG_AMOUNT, MISSING, SURPLUS,
     BY_10, BY_10_LATER, BY_11, BY_11_21, BY_21, BY_12, BY_13, BY_14, BY_15, BY_16, BY_17, BY_40, BY_41, BY_45, BY_46,
-    LATER, WRONG_REFUSED, ABOVE_REFUSED, WRONG_46, FORGED, KEPT, KINDS
+    LATER, WRONG_REFUSED, ABOVE_REFUSED, WRONG_46, FORGED, KEPT, LINKED, LINKED_RIGHT, LINKED_17, LINKED_40, LINKED_41, ENDS_10, KINDS
 };
 
 static const struct {
@@ -28,7 +29,9 @@ static const struct {
     {"by 13", 500}, {"by 14", 250}, {"by 15", 200}, {"by 16", 300}, {"by 17", 150}, {"by 40", 1500}, {"by 41", 350}, {"by 45", 350},
     {"by 46", 500},
     {"after an accepted interval", 3000}, {"with a wrong line", 2500}, {"with a line for 46 too", 200}, {"by 46 with a wrong line", 350},
-    {"of books without a history", 2500}, {"held to a ledger of all entries", 10000}};
+    {"of books without a history", 2500}, {"held to a ledger of all entries", 10000},
+    {"of books with a link", 6000}, {"right", 1500}, {"refused by 17 of the link", 60}, {"by 40 at a link's record", 60}, {"by 41", 30},
+    {"by 10 of the ends alone", 60}};
 
 static long seen[KINDS], calls;
 
@@ -118,6 +121,25 @@ static void count_refusal(const struct independent_bill *bill, const struct inde
     seen[WRONG_46] += want->number == 46 && want->wrong;
 }
 
+/* Of a book with the link, whether its record is what a bill is refused for: without it the interval is one. */
+static void count_link(const struct independent_bill *bill, const struct independent_billed *want)
+{
+    struct independent_shape shape = independent_shape_of(&bill->book);
+    struct independent_interval interval;
+    size_t after;
+    seen[ENDS_10] += want->number == 10 && independent_only_ends_bad(&bill->book);
+    if (!want->played || !shape.linked)
+        return;
+    size_t at = want->accepted * independent_interval_bytes(shape);
+    shape.linked = 0;
+    int whole = independent_interval_read(shape, bill->records, bill->records_length, at, &interval, &after) == 0;
+    seen[LINKED]++;
+    seen[LINKED_RIGHT] += want->right == 1;
+    seen[LINKED_17] += want->number == 17 && want->place == shape.regions;
+    seen[LINKED_40] += want->number == 40 && whole;
+    seen[LINKED_41] += want->number == 41 && whole;
+}
+
 static void count(const struct bill_trial *trial, const struct independent_bill *bill, const struct independent_billed *want)
 {
     if (want->number != 0)
@@ -128,6 +150,7 @@ static void count(const struct bill_trial *trial, const struct independent_bill 
         count_wrong(bill, want);
     seen[FORGED] += want->played && trial->ledger == NULL;
     seen[KEPT] += want->played && trial->ledger != NULL;
+    count_link(bill, want);
     calls++;
 }
 
@@ -197,7 +220,7 @@ void bill_counts(int part)
     int few = 0;
     printf("bills %ld: ", calls);
     for (int kind = 0; kind < KINDS; kind++) {
-        int part_begins = kind == WRONG_FIRST || kind == BY_10 || kind == LATER || kind == FORGED;
+        int part_begins = kind == WRONG_FIRST || kind == BY_10 || kind == LATER || kind == FORGED || kind == LINKED;
         printf("%s%s %ld", kind == 0 ? "" : part_begins ? "; " : ", ", kinds[kind].name, seen[kind]);
         few |= seen[kind] < kinds[kind].least / (part > 1 ? 2 * part : 1) || seen[kind] == 0; /* in a part chance weighs more */
     }

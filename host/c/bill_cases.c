@@ -14,7 +14,7 @@ static int cases;
 /* Books of so many regions in a chain, without services, with a window and a day of one half-hour. */
 static void open_chain(unsigned regions)
 {
-    guxhamole_settings settings = {(uint8_t)regions, 0, 1, 1, 0, {255, 255, 255, 255, 255, 255, 255, 255}, 90000, 60000, -60000};
+    guxhamole_settings settings = {(uint8_t)regions, 0, 1, 1, 0, {255, 255, 255, 255, 255, 255, 255, 255}, 255, 255, 90000, 60000, -60000};
     for (unsigned region = 1; region < regions; region++)
         settings.parents[region] = (uint8_t)(region - 1);
     trial_begin(&now, &settings);

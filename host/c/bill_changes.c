@@ -170,6 +170,7 @@ static void change_entry(struct bill_trial *trial, size_t i)
     static const uint32_t out[] = {10000001, (uint32_t)-10000001, 0x80000000, 0x7fffffff, (uint32_t)-1};
     static const uint32_t factors[] = {9999, 20001, 0, UINT32_MAX};
     uint8_t *head = record(trial, i, 0), *region = record(trial, i, 1 + below(trial->book.regions));
+    uint32_t factor = factors[below(sizeof factors / sizeof *factors)];
     switch (below(7)) {
     case 0:
         put_number(head, 6, 4, below(2) ? trial->book.entries : next());
@@ -182,7 +183,10 @@ static void change_entry(struct bill_trial *trial, size_t i)
         break;
     case 3:
     case 4:
-        put_number(region, 12, 4, factors[below(sizeof factors / sizeof *factors)]);
+        if (trial->book.from != GUXHAMOLE_NONE && below(3) == 0)
+            put_number(record(trial, i, trial->book.regions + 1u), 10, 4, factor);
+        else
+            put_number(region, 12, 4, factor);
         break;
     default:
         put_number(region, 16 + 4 * below(trial->book.services + 1u), 4, out[below(sizeof out / sizeof *out)]);
@@ -192,8 +196,9 @@ static void change_entry(struct bill_trial *trial, size_t i)
 /* A record that is none, of another kind, or of another region: 40, 41, 45. */
 static void change_record(struct bill_trial *trial, size_t i)
 {
-    static const uint8_t numbers[] = {0, 1, 5, 6, 7, 11, 12, 13, 16, 17, 18, 20, 255};
-    uint8_t *any = record(trial, i, below(trial->book.regions + 1u)), *region = record(trial, i, 1 + below(trial->book.regions));
+    static const uint8_t numbers[] = {0, 1, 5, 6, 7, 11, 12, 13, 14, 15, 16, 17, 18, 20, 255};
+    size_t last = GUXHAMOLE_LINKS(trial->book.regions, trial->book.from);
+    uint8_t *any = record(trial, i, below(2) ? last : below(1 + last)), *region = record(trial, i, 1 + below(trial->book.regions));
     uint8_t number = numbers[below(sizeof numbers)];
     switch (below(5)) {
     case 0:

@@ -34,8 +34,7 @@ void trial_copy(struct bill_trial *to, const struct bill_trial *from)
 
 struct independent_bill bill_of(const struct bill_trial *trial)
 {
-    struct independent_bill bill = {trial->book, independent_book_link(&trial->book), trial->ring, trial->ring_length,
-                                    trial->work_length, trial->records, trial->records_length, trial->schedule, trial->schedule_length,
+    struct independent_bill bill = {trial->book, trial->ring, trial->ring_length, trial->work_length, trial->records, trial->records_length, trial->schedule, trial->schedule_length,
                                     trial->region, trial->numbers, trial->energy, trial->prices, trial->amounts, trial->numbers_length,
                                     trial->energy_length, trial->prices_length, trial->amounts_length};
     return bill;
@@ -62,16 +61,16 @@ static void begin_lengths(struct bill_trial *trial)
 void trial_begin(struct bill_trial *trial, const guxhamole_settings *settings)
 {
     static struct independent_ledger ledger;
-    uint8_t image[BLANK_IMAGE];
+    uint8_t image[BLANK_LINKED];
     size_t places = GUXHAMOLE_RING(settings->regions, settings->services, settings->window);
-    blank_image(settings, image);
-    guxhamole_kept kept = settings->threshold % 10000 != 0 ? guxhamole_load(image, sizeof image, trial->ring, places)
+    size_t length = any_blank(settings, image);
+    guxhamole_kept kept = settings->threshold % 10000 != 0 ? guxhamole_load(image, length, trial->ring, places)
                                                            : guxhamole_open(*settings, trial->ring, places);
     if (kept.number != 0)
         bill_differs("an opening or a blank image was refused", seed);
     trial->book = kept.book;
     trial->ledger = &ledger;
-    independent_ledger_open(&ledger, settings, independent_settings_link(settings));
+    independent_ledger_open(&ledger, settings);
     begin_lengths(trial);
     memset(trial->schedule, 0, sizeof *trial->schedule * trial->schedule_length);
 }
@@ -113,7 +112,7 @@ void trial_bill(struct bill_trial *trial)
     struct independent_bill bill = bill_of(trial);
     struct independent_ledger *ledger = trial->ledger;
     if (ledger == NULL) {
-        independent_ledger_of(&made, &trial->book, independent_book_link(&trial->book), trial->ring);
+        independent_ledger_of(&made, &trial->book, trial->ring);
         ledger = &made;
     }
     memcpy(work, trial->ring, sizeof *work * trial->ring_length);
@@ -174,6 +173,8 @@ static guxhamole_settings any_settings(void)
     for (int region = 1; region < settings.regions; region++)
         if (below(5) != 0)
             settings.parents[region] = (uint8_t)below((uint64_t)region);
+    struct independent_link link = below(3) == 0 ? independent_no_link() : any_link(settings.regions, settings.parents);
+    settings.from = link.from, settings.to = link.to;
     settings.threshold = 10000 * within(1, 6 * (int64_t)settings.window);
     if (below(5) == 0)
         settings.threshold = threshold_beside(settings.threshold);
@@ -187,9 +188,10 @@ static void enter(struct bill_trial *trial, const struct independent_interval *i
 {
     int32_t table[88];
     size_t regions = trial->book.regions, count = GUXHAMOLE_PRICES(trial->book.regions, trial->book.services);
+    size_t links = GUXHAMOLE_LINKS(regions, trial->book.from);
     guxhamole_entered entered = guxhamole_enter(trial->book, trial->ring, trial->ring_length, interval->entry,
                                                 (uint8_t)interval->day_kind, interval->prices, count, interval->marks, regions,
-                                                interval->flows, regions, interval->factors, regions, trial->schedule,
+                                                interval->flows, links, interval->factors, links, trial->schedule,
                                                 trial->schedule_length, table, count);
     if (entered.number != 0)
         bill_differs("an entry of the book's history was refused", seed);
@@ -285,6 +287,7 @@ void real_bill(struct bill_trial *trial)
     static const uint8_t parents[] = {255, 0, 0, 2, 2, 255, 255, 255};
     plan.regions = 5, plan.services = 10, plan.window = 2016, plan.halves = 48, plan.entries = 5000, plan.position = 100;
     plan.threshold = 40000000;
+    plan.kind = 2, plan.link = any_link(5, parents);
     memcpy(plan.parents, parents, sizeof parents);
     for (int region = 0; region < 5; region++)
         plan.counts[region] = 2016;

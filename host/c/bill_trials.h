@@ -9,7 +9,7 @@
 /* Room for the real market's ring and day, and in every slice for one place more than is right. */
 enum {
     TRIAL_RING = GUXHAMOLE_RING(5, 10, 2016) + 1, TRIAL_SCHEDULE = GUXHAMOLE_SCHEDULE(8, 10, 48) + 1,
-    TRIAL_LINES = BILL_INTERVALS + 10, TRIAL_RECORDS = TRIAL_LINES * GUXHAMOLE_INTERVAL(5, 10)
+    TRIAL_LINES = BILL_INTERVALS + 10, TRIAL_RECORDS = TRIAL_LINES * GUXHAMOLE_INTERVAL(5, 10, 0)
 };
 
 /* What is lent. */

@@ -23,7 +23,9 @@
    where neither loads it doesn't start. What comes back: the entries taken, the position in the day, threshold and limits, the
    windows' prices and sums, and the periods; a threshold too that no setting takes, being no whole hundreds of dollars, which then
    stays until the next one is set. What doesn't and must be given again: the schedule's rows. An image has no checksum: a price
-   that was changed to another one in range loads.
+   that was changed to another one in range loads. An image must be of the box's own market (box_market.h), its additional link
+   included. A box saves images of kind 2; one of kind 1, which an earlier box saved and which has no link, loads as well, and the next save
+   makes it kind 2.
 
    Nothing is deduplicated. A feeder that doesn't know whether its last interval was saved sends it again: refused by 13, it was. A
    box that started on IMAGE.old may be one save behind: its feeder goes on from the `entries taken` that the start says, and sets
@@ -57,10 +59,10 @@ struct box {
     struct box_files files;
 };
 
-/* Saves the book. A box whose book and file would part company ends, and the next start goes on from the file. */
+/* Saves the book, by kind 2, which tells every book. A box whose book and file would part company ends, and the next start goes on from the file. */
 static void save(struct box *box)
 {
-    guxhamole_stored stored = guxhamole_store(box->book, box->ring, RING, box->image, IMAGE_MAX);
+    guxhamole_stored stored = guxhamole_store_kind_2(box->book, box->ring, RING, box->image, IMAGE_MAX);
     if (stored.number != GUXHAMOLE_ACCEPTED) {
         answer_refused(stored.number, 0);
         exit(BROKEN);
@@ -92,7 +94,7 @@ static int take_interval(struct box *box, const struct line *line, char *why)
         return 0;
     }
     guxhamole_entered entered = guxhamole_enter(box->book, box->ring, RING, line->number, line->kind, line->prices, PRICES,
-                                                line->marks, REGIONS, line->flows, REGIONS, line->factors, REGIONS,
+                                                line->marks, REGIONS, line->flows, LINKS, line->factors, LINKS,
                                                 box->schedule.prices, SCHEDULE, table, PRICES);
     if (entered.number != GUXHAMOLE_ACCEPTED) {
         refusal_text(entered.number, entered.place, why);
@@ -112,7 +114,7 @@ static size_t take_record(struct box *box, size_t length, size_t at, char *why)
 {
     struct line line;
     guxhamole_found found = guxhamole_interval_read(box->book, box->records, length, at, line.prices, PRICES, line.marks, REGIONS,
-                                                    line.flows, REGIONS, line.factors, REGIONS);
+                                                    line.flows, LINKS, line.factors, LINKS);
     if (found.number != GUXHAMOLE_ACCEPTED) {
         refusal_text(found.number, 0, why);
         return 0;

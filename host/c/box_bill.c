@@ -136,11 +136,11 @@ static int schedule_read(struct check *check, const char *path)
    publishes. */
 static int play_one(struct check *check, struct replay *replay, int32_t *table, uint32_t *entry)
 {
-    int32_t prices[PRICES], flows[REGIONS];
+    int32_t prices[PRICES], flows[LINKS];
     uint8_t marks[REGIONS];
-    uint32_t factors[REGIONS];
+    uint32_t factors[LINKS];
     guxhamole_found found = guxhamole_interval_read(replay->book, check->records, check->records_length, replay->at, prices, PRICES,
-                                                    marks, REGIONS, flows, REGIONS, factors, REGIONS);
+                                                    marks, REGIONS, flows, LINKS, factors, LINKS);
     replay->number = found.number;
     if (found.number != GUXHAMOLE_ACCEPTED)
         return 0;
@@ -148,7 +148,7 @@ static int play_one(struct check *check, struct replay *replay, int32_t *table, 
     if (replay->lacks)
         return 0;
     guxhamole_entered entered = guxhamole_enter(replay->book, check->work, RING, found.entry, (uint8_t)found.day_kind, prices, PRICES,
-                                                marks, REGIONS, flows, REGIONS, factors, REGIONS, check->schedule.prices, SCHEDULE,
+                                                marks, REGIONS, flows, LINKS, factors, LINKS, check->schedule.prices, SCHEDULE,
                                                 table, PRICES);
     replay->number = entered.number;
     replay->place = entered.place;

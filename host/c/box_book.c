@@ -22,5 +22,6 @@ int same_market(const guxhamole_book *book)
 {
     guxhamole_settings own = BOX_SETTINGS;
     return book->regions == own.regions && book->services == own.services && book->window == own.window &&
-           book->halves == own.halves && memcmp(book->parents, own.parents, sizeof own.parents) == 0;
+           book->halves == own.halves && memcmp(book->parents, own.parents, sizeof own.parents) == 0 &&
+           book->from == own.from && book->to == own.to;
 }

@@ -45,15 +45,15 @@ static uint32_t opened(struct load *load, const struct commission *commission)
 static uint32_t played(struct load *load, uint8_t kind, uint32_t *changed)
 {
     static const int32_t schedule[SCHEDULE] = {0};
-    int32_t prices[PRICES], flows[REGIONS], table[PRICES];
+    int32_t prices[PRICES], flows[LINKS], table[PRICES];
     uint8_t marks[REGIONS];
-    uint32_t factors[REGIONS];
+    uint32_t factors[LINKS];
     guxhamole_drawn drawn = guxhamole_synthetic(load->book, load->seed, load->book.entries, kind, prices, PRICES, marks, REGIONS,
-                                                flows, REGIONS, factors, REGIONS);
+                                                flows, LINKS, factors, LINKS);
     if (drawn.number != GUXHAMOLE_ACCEPTED)
         return drawn.number;
     guxhamole_entered entered = guxhamole_enter(load->book, load->ring, RING, drawn.entry, (uint8_t)drawn.day_kind, prices, PRICES,
-                                                marks, REGIONS, flows, REGIONS, factors, REGIONS, schedule, SCHEDULE, table, PRICES);
+                                                marks, REGIONS, flows, LINKS, factors, LINKS, schedule, SCHEDULE, table, PRICES);
     if (entered.number != GUXHAMOLE_ACCEPTED)
         return entered.number;
     tell_periods(&load->book, &entered.book);

@@ -9,7 +9,7 @@
 #include <stdlib.h>
 #include <string.h>
 
-enum { HEAD = 12, REGION = 16 + 4 * MARKETS, LAST = HEAD + (REGIONS - 1) * REGION, CUT = -1, LACKS = 0, BYTES = 3 * INTERVAL };
+enum { HEAD = 12, REGION = 16 + 4 * MARKETS, LAST = HEAD + (REGIONS - 1) * REGION, LINK = LAST + REGION, CUT = -1, LACKS = 0, BYTES = 3 * INTERVAL };
 
 /* The byte at `at` of the interval becomes `byte`, or the file ends there; and how the interval is then refused. */
 struct damage {
@@ -22,16 +22,19 @@ static const struct damage damages[] = {
     /* the head: its length, kind and region total */
     {1, CUT, 40, 0}, {5, CUT, 40, 0}, {6, CUT, 40, 0}, {HEAD - 1, CUT, 40, 0}, {HEAD, CUT, 40, 0},
     {0, 0, 40, 0}, {0, 5, 40, 0}, {0, 6, 40, 0}, {0, 13, 40, 0}, {1, 1, 40, 0}, {3, 255, 40, 0},
-    {4, 17, 40, 0}, {4, 18, 41, 0}, {4, 0, 41, 0}, {5, 1, 41, 0},
+    {4, 17, 40, 0}, {4, 18, 40, 0}, {4, 19, 41, 0}, {4, 0, 41, 0}, {5, 1, 41, 0},
     {11, 0, 41, 0}, {11, REGIONS - 1, 41, 0}, {11, REGIONS + 1, 41, 0}, {11, 255, 41, 0},
     /* the first region, and the last */
     {HEAD + 5, CUT, 40, 0}, {HEAD + 6, CUT, 40, 0}, {HEAD + REGION - 1, CUT, 40, 0}, {HEAD + REGION, CUT, 40, 0},
     {HEAD, 5, 40, 0}, {HEAD, REGION + 1, 40, 0}, {HEAD + 4, 16, 40, 0}, {HEAD + 4, 99, 41, 0}, {HEAD + 5, 17, 41, 0},
     {HEAD + 6, 1, 45, 0}, {HEAD + 6, REGIONS, 45, 0}, {HEAD + 6, 255, 45, 0},
-    {LAST, REGION - 1, 40, 0}, {LAST + 4, 18, 41, 0}, {LAST + 6, 0, 45, 0}, {LAST + 6, REGIONS, 45, 0}, {INTERVAL - 1, CUT, 40, 0},
+    {LAST, REGION - 1, 40, 0}, {LAST + 4, 18, 40, 0}, {LAST + 4, 19, 41, 0}, {LAST + 6, 0, 45, 0}, {LAST + 6, REGIONS, 45, 0}, {INTERVAL - 1, CUT, 40, 0},
     /* whole records that the entry refuses: the number, the day kind, marks, a price, a service's, a factor */
     {6, 255, 13, 0}, {10, 2, 14, 0}, {HEAD + 7, 2, 15, 0}, {LAST + 7, 1, LACKS, 0}, {HEAD + 2 * REGION + 19, 127, 16, 2 * MARKETS},
-    {HEAD + REGION + 23, 128, 16, MARKETS + 1}, {HEAD + REGION + 14, 1, 17, 1}};
+    {HEAD + REGION + 23, 128, 16, MARKETS + 1}, {HEAD + REGION + 14, 1, 17, 1},
+    /* the additional link's record, where the market has it; and a factor that the entry refuses */
+    {LINK, CUT, 40, 0}, {LINK + 13, CUT, 40, 0}, {LINK, 13, 40, 0}, {LINK, 15, 40, 0}, {LINK + 4, 16, 40, 0}, {LINK + 4, 17, 40, 0},
+    {LINK + 4, 19, 41, 0}, {LINK + 5, 1, 41, 0}, {LINK + 12, 1, 17, REGIONS}};
 
 static const char *folder;
 static FILE *expected;
@@ -137,7 +140,7 @@ int main(int count, char **words)
     if (expected == NULL)
         return 1;
     fprintf(expected, "started on a new book\n");
-    for (size_t i = 0; i < sizeof damages / sizeof *damages; i++) {
+    for (size_t i = 0; i < sizeof damages / sizeof *damages && damages[i].at < INTERVAL; i++) {
         put_damaged((int)i, &damages[i]);
         expect((int)i, &damages[i]);
         expect_rewriting((int)i, &damages[i]);

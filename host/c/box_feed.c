@@ -5,7 +5,8 @@
    same in the earlier form, in every order, for `box rewrite`. `box_feed short` prints host/c/box.lines, a sample with every kind of
    line, and `box_feed sample` the bytes of its file of records, host/c/box.records, `box_feed earlier` those of host/c/box.earlier,
    the same intervals in the earlier form. `box_feed image` prints an image of the market with nothing entered and a threshold of 95,000
-   cents, which no box can be set. */
+   cents, which no box can be set, of kind 1, as an earlier box saved it; `box_feed image_2` the same of kind 2, with the market's additional
+   link, if any. */
 #include "feed.h"
 #include "test_books.h"
 
@@ -204,13 +205,16 @@ static void put_short(void)
     put_questions();
 }
 
-static void put_image(void)
+static void put_image(int second)
 {
-    uint8_t image[BLANK_IMAGE];
+    uint8_t image[BLANK_LINKED];
     guxhamole_settings settings = BOX_SETTINGS;
     settings.threshold = 95000;
-    blank_image(&settings, image);
-    fwrite(image, 1, sizeof image, stdout);
+    if (second)
+        blank_linked(&settings, image);
+    else
+        blank_image(&settings, image);
+    fwrite(image, 1, second ? (size_t)BLANK_LINKED : (size_t)BLANK_IMAGE, stdout);
 }
 
 int main(int count, char **words)
@@ -227,7 +231,9 @@ int main(int count, char **words)
     else if (strcmp(what, "earlier") == 0)
         put_sample(1);
     else if (strcmp(what, "image") == 0)
-        put_image();
+        put_image(0);
+    else if (strcmp(what, "image_2") == 0)
+        put_image(1);
     else
         put_day();
     return 0;

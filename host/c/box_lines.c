@@ -112,9 +112,9 @@ static void interval(struct cursor *cursor, struct line *line)
     all_cents(cursor, line->prices, PRICES);
     for (int region = 0; region < REGIONS; region++)
         line->marks[region] = small(cursor);
-    all_cents(cursor, line->flows, REGIONS);
-    for (int region = 0; region < REGIONS; region++)
-        line->factors[region] = natural(cursor);
+    all_cents(cursor, line->flows, LINKS);
+    for (int place = 0; place < LINKS; place++)
+        line->factors[place] = natural(cursor);
 }
 
 static void records(struct cursor *cursor, struct line *line)

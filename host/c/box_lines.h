@@ -2,7 +2,8 @@
    one, and ends in byte 10:
 
      interval NUMBER KIND PRICES MARKS FLOWS FACTORS   an entry: 55 prices (region by region, energy first), 5 marks, 5 flows and 5
-                                                       factors, as guxhamole_enter takes them
+                                                       factors, as guxhamole_enter takes them; in a market with the additional link
+                                                       (box_market.h) 6 flows and 6 factors, the last being the link's
      records PLACE PATH                                entries: the intervals that stand end to end in the file PATH (the line's
                                                        rest, blanks in it too) from byte PLACE to its end, as
                                                        guxhamole_interval_read takes them, regions in number order; a file
@@ -21,7 +22,7 @@
 
 #include <stdio.h>
 
-/* The most bytes of a line: 72 numbers of 11 characters, with a blank each, have 864. */
+/* The most bytes of a line: 74 numbers of 11 characters, with a blank each, have 888. */
 enum { LINE_MOST = 2000 };
 
 enum line_word { LINE_INTERVAL, LINE_RECORDS, LINE_SCHEDULE, LINE_REPORT, LINE_LEFT, LINE_THRESHOLD, LINE_LIMITS, LINE_SAVE };
@@ -31,8 +32,8 @@ struct line {
     enum line_word word;
     uint32_t number, region, market;
     uint8_t kind, marks[REGIONS];
-    int32_t prices[PRICES], flows[REGIONS], row[HALVES], price, cap, floor;
-    uint32_t factors[REGIONS];
+    int32_t prices[PRICES], flows[LINKS], row[HALVES], price, cap, floor;
+    uint32_t factors[LINKS];
     int64_t threshold;
     size_t place;
     const char *path; /* in the line's text */

@@ -16,9 +16,9 @@ static void put_interval(FILE *out, const struct line *line)
     put(out, line->prices, PRICES);
     for (int region = 0; region < REGIONS; region++)
         fprintf(out, " %d", line->marks[region]);
-    put(out, line->flows, REGIONS);
-    for (int region = 0; region < REGIONS; region++)
-        fprintf(out, " %" PRIu32, line->factors[region]);
+    put(out, line->flows, LINKS);
+    for (int place = 0; place < LINKS; place++)
+        fprintf(out, " %" PRIu32, line->factors[place]);
 }
 
 void feed_line(FILE *out, const struct line *line)
@@ -78,6 +78,12 @@ void feed_records(FILE *out, const struct line *line, const int *order)
         for (int market = 0; market < MARKETS; market++)
             put_bytes(out, 4, (uint32_t)line->prices[region * MARKETS + market]);
     }
+    for (int place = REGIONS; place < LINKS; place++) { /* one, or none */
+        put_bytes(out, 4, 14);
+        put_bytes(out, 2, 18);
+        put_bytes(out, 4, (uint32_t)line->flows[place]);
+        put_bytes(out, 4, line->factors[place]);
+    }
 }
 
 /* Region after region changes places with one before it, or with none. */
@@ -99,9 +105,9 @@ struct line feed_interval(void)
     line.word = LINE_INTERVAL;
     for (int place = 0; place < PRICES; place++)
         line.prices[place] = place % MARKETS == 0 ? 5000 + 100 * (place / MARKETS) : 200 + place;
-    for (int region = 0; region < REGIONS; region++) {
-        line.flows[region] = 100;
-        line.factors[region] = 10500;
+    for (int place = 0; place < LINKS; place++) {
+        line.flows[place] = 100;
+        line.factors[place] = 10500;
     }
     return line;
 }

@@ -108,12 +108,12 @@ struct independent_link independent_image_link(const uint8_t *image)
 }
 
 /* 24 to 27, or 0. Kind 2 is 24 under 156 bytes, a kind that isn't known 25 at any length. */
-static uint32_t head_refusal(const uint8_t *image, size_t length, unsigned kinds)
+static uint32_t head_refusal(const uint8_t *image, size_t length)
 {
     if (length < 148 || independent_number(image, 0, 4) != length)
         return 24;
     unsigned kind = (unsigned)independent_number(image, 4, 2);
-    if (kind < 1 || kind > kinds)
+    if (kind != 1 && kind != 2)
         return 25;
     if (length < independent_head(kind))
         return 24;
@@ -122,9 +122,9 @@ static uint32_t head_refusal(const uint8_t *image, size_t length, unsigned kinds
     return length != independent_head(kind) + 4 * counted(image) ? 27 : 0;
 }
 
-struct independent_refusal independent_image_refusal(const uint8_t *image, size_t length, unsigned kinds)
+struct independent_refusal independent_image_refusal(const uint8_t *image, size_t length)
 {
-    struct independent_refusal refusal = {head_refusal(image, length, kinds), 0};
+    struct independent_refusal refusal = {head_refusal(image, length), 0};
     if (refusal.number != 0)
         return refusal;
     size_t at = independent_head((unsigned)independent_number(image, 4, 2)), place = 0;
@@ -140,7 +140,7 @@ struct independent_refusal independent_image_refusal(const uint8_t *image, size_
 
 uint32_t independent_check(const uint8_t *image, size_t length)
 {
-    return independent_image_refusal(image, length, LINKS_ON ? 2 : 1).number;
+    return independent_image_refusal(image, length).number;
 }
 
 int64_t independent_index(uint64_t amount, const uint32_t c[4], const uint32_t b[4], uint64_t last)

@@ -14,10 +14,8 @@ struct independent_refusal {
     uint64_t place;
 };
 
-/* The check where images of kinds 1 to `kinds` are known: 24 to 27, and 16 with its place. */
-struct independent_refusal independent_image_refusal(const uint8_t *image, size_t length, unsigned kinds);
-
-/* The number alone, where the kinds are those of the archive (independent_link.h). */
+/* The check of an image of either kind: 24 to 27, and 16 with its place; and the number alone. */
+struct independent_refusal independent_image_refusal(const uint8_t *image, size_t length);
 uint32_t independent_check(const uint8_t *image, size_t length);
 
 /* Where the prices begin in an image of this kind. */

@@ -12,7 +12,7 @@ int64_t independent_amount(uint32_t energy, int32_t price)
 }
 
 /* What the book says of itself, as if by an opening so many entries ago. */
-static void open_as(struct independent_ledger *ledger, const guxhamole_book *book, struct independent_link link)
+static void open_as(struct independent_ledger *ledger, const guxhamole_book *book)
 {
     guxhamole_settings settings;
     unsigned day = 6u * book->halves;
@@ -21,15 +21,15 @@ static void open_as(struct independent_ledger *ledger, const guxhamole_book *boo
     settings.window = book->window, settings.halves = book->halves;
     settings.first = (uint16_t)((book->position + day - book->entries % day) % day);
     memcpy(settings.parents, book->parents, sizeof settings.parents);
+    settings.from = book->from, settings.to = book->to;
     settings.threshold = book->threshold, settings.cap = book->cap, settings.floor = book->floor;
-    independent_ledger_open(ledger, &settings, link);
+    independent_ledger_open(ledger, &settings);
     ledger->entries = book->entries;
 }
 
-void independent_ledger_of(struct independent_ledger *ledger, const guxhamole_book *book, struct independent_link link,
-                           const int32_t *ring)
+void independent_ledger_of(struct independent_ledger *ledger, const guxhamole_book *book, const int32_t *ring)
 {
-    open_as(ledger, book, link);
+    open_as(ledger, book);
     for (unsigned region = 0; region < book->regions; region++)
         for (unsigned market = 0; market <= book->services; market++) {
             unsigned place = 11 * region + market;
@@ -67,7 +67,7 @@ static void put_prices(const guxhamole_book *book, const struct independent_inte
 static struct independent_refusal play_one(const struct independent_bill *bill, struct independent_ledger *ledger, size_t *at,
                                            struct independent_interval *interval)
 {
-    struct independent_shape shape = independent_shape_with(bill->book.regions, bill->book.services, bill->link);
+    struct independent_shape shape = independent_shape_of(&bill->book);
     struct independent_refusal refusal = {0, 0};
     size_t after = 0;
     if (sums_bad(ledger))
@@ -125,7 +125,7 @@ static uint32_t first_refusal(const struct independent_bill *bill)
 {
     const guxhamole_book *book = &bill->book;
     size_t places = book->regions * (book->services + (size_t)1), lines = bill->numbers_length;
-    if (independent_book_bad(book, bill->link))
+    if (independent_book_bad(book))
         return 10;
     if (bill->ring_length != places * book->window || bill->work_length != bill->ring_length)
         return 11;
@@ -201,7 +201,7 @@ struct independent_billed independent_billed_of(const struct independent_bill *b
     if (billed.number != 0)
         return billed;
     if (ledger == NULL) {
-        independent_ledger_of(&made, &bill->book, bill->link, bill->ring);
+        independent_ledger_of(&made, &bill->book, bill->ring);
         ledger = &made;
     }
     if (bill->ring_length > 0)

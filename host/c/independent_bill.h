@@ -13,7 +13,6 @@ enum { BILL_INTERVALS = 400 };
 /* What is lent. */
 struct independent_bill {
     guxhamole_book book;
-    struct independent_link link; /* the book's */
     const int32_t *ring;
     size_t ring_length, work_length;
     const uint8_t *records;
@@ -51,8 +50,7 @@ struct independent_billed {
 int64_t independent_amount(uint32_t energy, int32_t price);
 
 /* Gives the ledger a history of which the book, one that rule 10 passes, and the ring of its length can come. */
-void independent_ledger_of(struct independent_ledger *ledger, const guxhamole_book *book, struct independent_link link,
-                           const int32_t *ring);
+void independent_ledger_of(struct independent_ledger *ledger, const guxhamole_book *book, const int32_t *ring);
 
 /* Plays the records over the book's ledger, which is then as it was; `work`, a copy of the ring, takes the accepted entries. Region and
    lengths must be right. */

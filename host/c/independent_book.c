@@ -41,15 +41,22 @@ static int market_bad(const guxhamole_book *book, unsigned region, unsigned mark
 }
 
 /* The closed book's ends are 0, 0, and bad; by its regions it is refused all the same. */
-int independent_book_bad(const guxhamole_book *book, struct independent_link link)
+int independent_book_bad(const guxhamole_book *book)
 {
-    int bad = fields_bad(book) || independent_ends_bad(book->regions, book->parents, link);
+    int bad = fields_bad(book) || independent_ends_bad(book->regions, book->parents, independent_book_link(book));
     for (unsigned region = 0; region < 8; region++) {
         bad |= region_bad(book, region);
         for (unsigned market = 0; market < 11; market++)
             bad |= market_bad(book, region, market);
     }
     return bad;
+}
+
+int independent_only_ends_bad(const guxhamole_book *book)
+{
+    guxhamole_book without = *book;
+    without.from = without.to = 255;
+    return independent_book_bad(book) && !independent_book_bad(&without);
 }
 
 /* From the latest back: it stands before the next place, and place 0 comes after the last. */

@@ -5,7 +5,10 @@
 
 #include "independent_link.h"
 
-int independent_book_bad(const guxhamole_book *book, struct independent_link link);
+int independent_book_bad(const guxhamole_book *book);
+
+/* Whether it is refused for the ends of its additional link alone. */
+int independent_only_ends_bad(const guxhamole_book *book);
 
 /* A sum's part of it. */
 int independent_sum_bad(int64_t sum);

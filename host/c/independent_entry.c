@@ -15,7 +15,7 @@ struct independent_lengths independent_entry_lengths(const struct independent_le
 {
     const guxhamole_settings *settings = &ledger->settings;
     size_t regions = settings->regions, markets = settings->services + (size_t)1;
-    size_t flows = independent_places(independent_shape_with(settings->regions, settings->services, ledger->link));
+    size_t flows = independent_places(independent_settings_shape(settings));
     struct independent_lengths right = {regions * markets * settings->window, regions * markets, regions, flows, flows,
                                         regions * markets * 2 * settings->halves, regions * markets};
     return right;
@@ -57,7 +57,7 @@ struct independent_refusal independent_entry_refusal(const struct independent_le
     for (unsigned region = 0; region < regions; region++)
         if (ledger->settings.parents[region] != NO_PARENT && factor_bad(interval->factors[region]))
             return refused(17, region);
-    if (independent_has_link(ledger->link) && factor_bad(interval->factors[regions]))
+    if (independent_has_link(independent_settings_link(&ledger->settings)) && factor_bad(interval->factors[regions]))
         return refused(17, regions);
     return refused(0, 0);
 }
@@ -73,7 +73,6 @@ int64_t independent_rounded(int64_t dividend, int64_t divisor)
 /* The limits that bind each region's energy, in ten-thousandths of a cent. */
 struct limits {
     const guxhamole_settings *settings;
-    struct independent_link link;
     const struct independent_interval *interval;
     int64_t caps[8], floors[8];
     int capped[8], floored[8];
@@ -92,9 +91,9 @@ static int power(const struct limits *limits, unsigned from, unsigned to, int64_
         return 1;
     }
     *factor = limits->interval->factors[limits->settings->regions];
-    if (limits->link.from == from && limits->link.to == to)
+    if (limits->settings->from == from && limits->settings->to == to)
         return limits->interval->flows[limits->settings->regions] > 0;
-    if (limits->link.from == to && limits->link.to == from)
+    if (limits->settings->from == to && limits->settings->to == from)
         return limits->interval->flows[limits->settings->regions] < 0;
     return 0;
 }
@@ -145,7 +144,7 @@ static void walk_sources(struct limits *limits, const struct independent_ledger 
 uint32_t independent_entry_publish(const struct independent_ledger *ledger, const struct independent_interval *interval,
                                    const int32_t *schedule, int32_t *table)
 {
-    struct limits limits = {&ledger->settings, ledger->link, interval, {0}, {0}, {0}, {0}};
+    struct limits limits = {&ledger->settings, interval, {0}, {0}, {0}, {0}};
     unsigned places = ledger->settings.regions * (ledger->settings.services + 1u);
     uint32_t changed = 0;
     int32_t effective[88];

@@ -62,12 +62,13 @@ static void put_prices(struct writer *writer, const guxhamole_book *book, const 
         }
 }
 
-uint32_t independent_store(const guxhamole_book *book, struct independent_link link, const int32_t *ring, size_t ring_length, unsigned kind,
-                           uint8_t *buffer, size_t room, size_t *length)
+uint32_t independent_store(const guxhamole_book *book, const int32_t *ring, size_t ring_length, unsigned kind, uint8_t *buffer,
+                           size_t room, size_t *length)
 {
     struct writer writer = {buffer};
+    struct independent_link link = independent_book_link(book);
     *length = 0;
-    if (independent_book_bad(book, link))
+    if (independent_book_bad(book))
         return 10;
     if (ring_length != ring_places(book->regions, book->services, book->window))
         return 11;
@@ -95,6 +96,8 @@ static void take_head(const uint8_t *image, guxhamole_book *book)
     book->regions = image[6], book->services = image[7];
     book->window = (uint16_t)independent_number(image, 8, 2), book->halves = image[10];
     memcpy(book->parents, image + 12, sizeof book->parents);
+    struct independent_link link = independent_image_link(image);
+    book->from = link.from, book->to = link.to;
     book->entries = (uint32_t)independent_number(image, 20, 4);
     book->position = (uint16_t)independent_number(image, 24, 2);
     book->threshold = (int64_t)independent_number(image, 28, 8);
@@ -119,12 +122,10 @@ static void take_prices(const uint8_t *prices, guxhamole_book *book, int32_t *ri
             }
 }
 
-struct independent_refusal independent_load(const uint8_t *image, size_t length, unsigned kinds, int32_t *ring, size_t ring_length,
-                                            guxhamole_book *book, struct independent_link *link)
+struct independent_refusal independent_load(const uint8_t *image, size_t length, int32_t *ring, size_t ring_length, guxhamole_book *book)
 {
-    struct independent_refusal refusal = independent_image_refusal(image, length, kinds);
+    struct independent_refusal refusal = independent_image_refusal(image, length);
     memset(book, 0, sizeof *book);
-    *link = independent_ends(0, 0);
     if ((refusal.number == 0 || refusal.number == 16) &&
         ring_length != ring_places(image[6], image[7], (unsigned)independent_number(image, 8, 2))) {
         refusal.number = 11;
@@ -132,7 +133,6 @@ struct independent_refusal independent_load(const uint8_t *image, size_t length,
     }
     if (refusal.number != 0)
         return refusal;
-    *link = independent_image_link(image);
     take_head(image, book);
     take_prices(image + independent_head((unsigned)independent_number(image, 4, 2)), book, ring);
     return refusal;
@@ -159,6 +159,7 @@ void independent_book_of(const struct independent_ledger *ledger, guxhamole_book
     book->regions = settings->regions, book->services = settings->services;
     book->window = settings->window, book->halves = settings->halves;
     memcpy(book->parents, settings->parents, sizeof book->parents);
+    book->from = settings->from, book->to = settings->to;
     book->threshold = settings->threshold, book->cap = settings->cap, book->floor = settings->floor;
     book->entries = ledger->entries;
     book->position = (uint16_t)((settings->first + ledger->entries) % (6u * settings->halves));

@@ -36,7 +36,7 @@ static uint32_t begin_record(struct cursor *cursor, unsigned due, struct indepen
         return 40;
     if (kind == REGION_KIND && length != 4 + 2 + 1 + 1 + 4 + 4 + 4 * (shape.services + 1))
         return 40;
-    if (kind == LINK_KIND && shape.known && length != LINK_LENGTH)
+    if (kind == LINK_KIND && length != LINK_LENGTH)
         return 40;
     return kind == due ? 0 : 41;
 }

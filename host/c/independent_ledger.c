@@ -6,7 +6,7 @@
 #include <string.h>
 
 /* 20: an opening's settings but for its money. */
-static int setting_bad(const guxhamole_settings *settings, struct independent_link link)
+static int setting_bad(const guxhamole_settings *settings)
 {
     if (settings->regions < 1 || settings->regions > 8 || settings->services > 10 || settings->window < 1 || settings->window > 2016)
         return 1;
@@ -17,7 +17,7 @@ static int setting_bad(const guxhamole_settings *settings, struct independent_li
         if (parent != 255 && (region >= settings->regions || parent >= region))
             return 1;
     }
-    return independent_ends_bad(settings->regions, settings->parents, link);
+    return independent_ends_bad(settings->regions, settings->parents, independent_settings_link(settings));
 }
 
 uint32_t independent_threshold(int64_t threshold)
@@ -37,9 +37,9 @@ static size_t ring_places(const guxhamole_settings *settings)
     return settings->regions * (settings->services + (size_t)1) * settings->window;
 }
 
-uint32_t independent_opening(const guxhamole_settings *settings, struct independent_link link, size_t ring_length)
+uint32_t independent_opening(const guxhamole_settings *settings, size_t ring_length)
 {
-    if (setting_bad(settings, link))
+    if (setting_bad(settings))
         return 20;
     if (ring_length != ring_places(settings))
         return 11;
@@ -47,10 +47,9 @@ uint32_t independent_opening(const guxhamole_settings *settings, struct independ
     return threshold != 0 ? threshold : independent_limits(settings->cap, settings->floor);
 }
 
-void independent_ledger_open(struct independent_ledger *ledger, const guxhamole_settings *settings, struct independent_link link)
+void independent_ledger_open(struct independent_ledger *ledger, const guxhamole_settings *settings)
 {
     ledger->settings = *settings;
-    ledger->link = link;
     ledger->entries = 0;
     memset(ledger->triggered, 0, sizeof ledger->triggered);
     memset(ledger->released, 0, sizeof ledger->released);
@@ -68,10 +67,13 @@ void independent_ledger_load(struct independent_ledger *ledger, const uint8_t *i
     settings.halves = image[10];
     settings.first = (uint16_t)independent_number(image, 24, 2);
     memcpy(settings.parents, image + 12, sizeof settings.parents);
+    struct independent_link link = independent_image_link(image);
+    settings.from = link.from;
+    settings.to = link.to;
     settings.threshold = (int64_t)independent_number(image, 28, 8);
     settings.cap = (int32_t)independent_number(image, 36, 4);
     settings.floor = (int32_t)independent_number(image, 40, 4);
-    independent_ledger_open(ledger, &settings, independent_image_link(image));
+    independent_ledger_open(ledger, &settings);
 }
 
 /* Of the next entry. */
@@ -175,7 +177,7 @@ uint32_t independent_ledger_restart(const struct independent_ledger *ledger, uns
     size_t counted = 0;
     for (unsigned region = 0; region < ledger->settings.regions; region++)
         counted += ledger->counts[region] < ledger->settings.window ? ledger->counts[region] : ledger->settings.window;
-    if (kind == 1 && independent_has_link(ledger->link))
+    if (kind == 1 && independent_has_link(independent_settings_link(&ledger->settings)))
         return 47;
     if (room < independent_head(kind) + 4 * counted * (ledger->settings.services + (size_t)1))
         return 23;

@@ -11,7 +11,6 @@ enum { LEDGER_MOST = 2 * 2016 + 100 };
 
 struct independent_ledger {
     guxhamole_settings settings;          /* threshold, cap and floor are those last set */
-    struct independent_link link;         /* the additional one, or none */
     uint32_t entries;                     /* accepted */
     uint32_t triggered[88], released[88]; /* the last entry that did so to the market, from 1 up, at 11 x region + market; 0: none */
     size_t counts[8];                     /* of the intervals at which the region was unmarked */
@@ -20,12 +19,12 @@ struct independent_ledger {
 };
 
 /* What an opening, a threshold or limits are refused by, or 0. */
-uint32_t independent_opening(const guxhamole_settings *settings, struct independent_link link, size_t ring_length);
+uint32_t independent_opening(const guxhamole_settings *settings, size_t ring_length);
 uint32_t independent_threshold(int64_t threshold);
 uint32_t independent_limits(int32_t cap, int32_t floor);
 
 /* Begins with an accepted opening, or with an image's settings in its place: the next entry's position is then the first one. */
-void independent_ledger_open(struct independent_ledger *ledger, const guxhamole_settings *settings, struct independent_link link);
+void independent_ledger_open(struct independent_ledger *ledger, const guxhamole_settings *settings);
 void independent_ledger_load(struct independent_ledger *ledger, const uint8_t *image);
 
 /* Step 1: what the next entry's prices are before anything is held within a limit of a period. */

@@ -60,7 +60,7 @@ struct independent_left independent_intervals_left(const guxhamole_book *book, c
     static int32_t prices[2 * 2016];
     struct independent_left left;
     memset(&left, 0, sizeof left);
-    left.holds[HOLDS_BOOK] = independent_book_bad(book, independent_book_link(book));
+    left.holds[HOLDS_BOOK] = independent_book_bad(book);
     if (!left.holds[HOLDS_BOOK]) {
         left.holds[HOLDS_LENGTH] = length != book->regions * (book->services + (size_t)1) * book->window;
         left.holds[HOLDS_MARKET] = region >= book->regions || market > book->services;

@@ -30,26 +30,24 @@ int independent_ends_bad(unsigned regions, const uint8_t *parents, struct indepe
 
 struct independent_link independent_settings_link(const guxhamole_settings *settings)
 {
-    (void)settings;
-    return independent_no_link();
+    return independent_ends(settings->from, settings->to);
 }
 
 struct independent_link independent_book_link(const guxhamole_book *book)
 {
-    (void)book;
-    return independent_no_link();
+    return independent_ends(book->from, book->to);
 }
 
-struct independent_shape independent_shape_with(unsigned regions, unsigned services, struct independent_link link)
+struct independent_shape independent_settings_shape(const guxhamole_settings *settings)
 {
-    int linked = independent_has_link(link);
-    struct independent_shape shape = {regions, services, linked, linked ? 1 : LINKS_ON};
+    struct independent_shape shape = {settings->regions, settings->services, independent_has_link(independent_settings_link(settings))};
     return shape;
 }
 
 struct independent_shape independent_shape_of(const guxhamole_book *book)
 {
-    return independent_shape_with(book->regions, book->services, independent_book_link(book));
+    struct independent_shape shape = {book->regions, book->services, independent_has_link(independent_book_link(book))};
+    return shape;
 }
 
 size_t independent_places(struct independent_shape shape)

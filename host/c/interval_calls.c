@@ -2,6 +2,7 @@
 #include "interval_calls.h"
 
 #include "guarded.h"
+#include "independent_book.h"
 #include "make.h"
 
 #include <stdio.h>
@@ -10,9 +11,10 @@
 
 /* What is counted, and how often it must come up in a whole run. */
 enum kind {
-    READ, READ_10, READ_11, READ_40, READ_41, TURN_45, GIVEN_45, UNKNOWN_45,
+    READ, READ_LINK, READ_10, ENDS_10, READ_11, READ_40, READ_41, LINK_40, LINK_41, TURN_45, GIVEN_45, UNKNOWN_45,
     WRITTEN, WRITTEN_10, WRITTEN_11, WRITTEN_23,
-    SORTED, SAME, REWRITTEN_10, SHORT_10, REWRITTEN_23, BAD_23, REWRITTEN_40, REWRITTEN_41, GIVEN_42, UNKNOWN_42,
+    SORTED, SAME, REWRITTEN_10, SHORT_10, REWRITTEN_23, BAD_23, REWRITTEN_40, REWRITTEN_41, REWRITTEN_LINK_40,
+    REWRITTEN_LINK_41, GIVEN_42, UNKNOWN_42,
     ROUND, KINDS
 };
 
@@ -20,11 +22,13 @@ static const struct {
     const char *name;
     long least;
 } kinds[KINDS] = {
-    {"intervals read", 60000}, {"refused by 10", 1500}, {"by 11", 1500}, {"by 40", 40000}, {"by 41", 12000},
+    {"intervals read", 60000}, {"with a link", 30000}, {"refused by 10", 1500}, {"by 10 of the ends alone", 400}, {"by 11", 1500},
+    {"by 40", 40000}, {"by 41", 12000}, {"by 40 at the link's record", 2200}, {"by 41", 900},
     {"by 45 out of turn", 50000}, {"by 45 given before", 1000}, {"by 45 unknown", 4000},
     {"written", 40000}, {"refused by 10", 1500}, {"by 11", 1500}, {"by 23", 7000},
     {"rewritten to another order", 40000}, {"to the same bytes", 50000}, {"refused by 10", 8000}, {"by 10 before 23", 2000},
-    {"by 23", 12000}, {"by 23 before 40 to 42", 7000}, {"by 40", 45000}, {"by 41", 15000}, {"by 42 given before", 4000},
+    {"by 23", 12000}, {"by 23 before 40 to 42", 7000}, {"by 40", 45000}, {"by 41", 15000}, {"by 40 at the link's record", 3000},
+    {"by 41", 1500}, {"by 42 given before", 4000},
     {"by 42 unknown", 5000},
     {"round trips", 28000}};
 
@@ -71,8 +75,27 @@ static enum fault fault_of(const struct trial *trial, int earlier)
     return region >= trial->book.regions ? UNKNOWN : (met >> region & 1) != 0 ? GIVEN_BEFORE : OUT_OF_TURN;
 }
 
+/* Whether what is refused is the link's record: without it the interval is one. */
+static int of_link(const struct trial *trial, uint32_t number, int earlier)
+{
+    struct independent_shape shape = independent_shape_of(&trial->book);
+    struct independent_interval interval;
+    size_t after;
+    int linked = shape.linked;
+    shape.linked = 0;
+    if (!linked || (number != GUXHAMOLE_RECORD_BROKEN && number != GUXHAMOLE_RECORD_KIND))
+        return 0;
+    return (earlier ? independent_interval_earlier(shape, trial->records, trial->length, trial->at, &interval, &after)
+                    : independent_interval_read(shape, trial->records, trial->length, trial->at, &interval, &after)) == 0;
+}
+
 static void count_reading(const struct trial *trial, uint32_t number)
 {
+    int link = of_link(trial, number, 0);
+    seen[ENDS_10] += number == GUXHAMOLE_BOOK && independent_only_ends_bad(&trial->book);
+    seen[READ_LINK] += number == 0 && trial->book.from != GUXHAMOLE_NONE;
+    seen[LINK_40] += link && number == GUXHAMOLE_RECORD_BROKEN;
+    seen[LINK_41] += link && number == GUXHAMOLE_RECORD_KIND;
     switch (number) {
     case 0: seen[READ]++; break;
     case GUXHAMOLE_BOOK: seen[READ_10]++; break;
@@ -87,6 +110,9 @@ static void count_rewriting(const struct trial *trial, uint32_t number, int same
 {
     struct independent_interval interval;
     size_t after;
+    int link = of_link(trial, number, 1);
+    seen[REWRITTEN_LINK_40] += link && number == GUXHAMOLE_RECORD_BROKEN;
+    seen[REWRITTEN_LINK_41] += link && number == GUXHAMOLE_RECORD_KIND;
     switch (number) {
     case 0: seen[same ? SAME : SORTED]++; break;
     case GUXHAMOLE_BOOK:

@@ -8,7 +8,7 @@
 #include <stdlib.h>
 #include <string.h>
 
-enum { MANY = 1000, LISTS = 300, LIST_MOST = 20, ENTRIES = 20000, FORMS = 1024, SMALL = GUXHAMOLE_INTERVAL(2, 0) };
+enum { MANY = 1000, LISTS = 300, LIST_MOST = 20, ENTRIES = 20000, FORMS = 1024, SMALL = GUXHAMOLE_INTERVAL(2, 0, GUXHAMOLE_NONE) };
 
 static long orders, listed, met_again;
 static uint64_t one_in = 1;
@@ -18,12 +18,12 @@ static int in_part(void)
     return below(one_in) == 0;
 }
 
-/* A new trial of this size: an interval at place 0, in number order, with nothing behind it. */
-static void trial_of(struct trial *trial, unsigned regions, unsigned services)
+/* A new trial of this size: an interval at place 0, in number order, with nothing behind it; with the link or not (interval_trials.h). */
+static void trial_of(struct trial *trial, unsigned regions, unsigned services, int linked)
 {
     unsigned order[8];
     memset(trial, 0, sizeof *trial);
-    trial->book = book_of(regions, services);
+    trial->book = book_of(regions, services, linked);
     trial->interval = any_interval(&trial->book);
     trial->lent = right_lengths(&trial->book);
     trial->length = trial->room = interval_length(&trial->book);
@@ -74,7 +74,7 @@ static void every_order(void)
     uint8_t upward[INTERVAL_MOST];
     for (unsigned services = 0; services <= 10; services++)
         for (unsigned regions = 1, all = 1; regions <= 8; regions++, all *= regions) {
-            trial_of(&trial, regions, services);
+            trial_of(&trial, regions, services, (int)services % 3 - 1);
             memcpy(upward, trial.records, trial.length);
             unsigned tried = regions <= 6 ? all : (unsigned)MANY;
             for (unsigned i = 0; i < tried; i++)
@@ -86,7 +86,7 @@ static void every_order(void)
 /* Each byte becomes each other one. */
 static void every_byte(struct trial *trial)
 {
-    for (size_t at = 0; at < SMALL; at++) {
+    for (size_t at = 0; at < interval_length(&trial->book); at++) {
         uint8_t old = trial->records[at];
         for (unsigned byte = 0; byte < 256; byte++)
             if (in_part()) {
@@ -100,9 +100,9 @@ static void every_byte(struct trial *trial)
 /* The records end anywhere, the place is anywhere, and the room too short or not. */
 static void every_cut(struct trial *trial)
 {
-    static const size_t rooms[] = {SMALL, SMALL + 8, SMALL - 1, 0};
-    for (trial->length = 0; trial->length <= SMALL + 8; trial->length++)
-        for (trial->at = 0; trial->at <= SMALL + 10; trial->at++)
+    const size_t small = interval_length(&trial->book), rooms[] = {small, small + 8, small - 1, 0};
+    for (trial->length = 0; trial->length <= small + 8; trial->length++)
+        for (trial->at = 0; trial->at <= small + 10; trial->at++)
             if (in_part()) {
                 trial->room = rooms[below(4)];
                 both_alike(trial, seed);
@@ -112,12 +112,12 @@ static void every_cut(struct trial *trial)
 static void small_intervals(void)
 {
     static struct trial trial;
-    for (int shuffled = 0; shuffled < 2; shuffled++) {
-        trial_of(&trial, 2, 0);
-        if (shuffled)
+    for (int form = 0; form < 4; form++) {
+        trial_of(&trial, 2, 0, form / 2);
+        if (form % 2)
             shuffle(&trial);
         every_byte(&trial);
-        memcpy(trial.records + SMALL, trial.records, SMALL);
+        memcpy(trial.records + trial.length, trial.records, trial.length);
         every_cut(&trial);
     }
 }
@@ -136,10 +136,10 @@ static void with_field(struct trial *trial, size_t place, int width, uint64_t nu
 
 static void odd_fields(struct trial *trial)
 {
-    static const uint32_t lengths[] = {0, 5, 6, 7, 11, 12, 13, 255, 256, 268, 65548, 0x7fffffff, 0x80000000, 0xffffffff};
+    static const uint32_t lengths[] = {0, 5, 6, 7, 11, 12, 13, 14, 15, 255, 256, 268, 65548, 0x7fffffff, 0x80000000, 0xffffffff};
     static const uint32_t odd_kinds[] = {0, 1, 15, 16, 17, 18, 64, 65, 272, 273, 4112, 4113, 65535};
     size_t size = record_place(trial, 2) - record_place(trial, 1), most = trial->book.regions;
-    for (size_t record = 0; record <= most; record++) {
+    for (size_t record = 0; record <= trial->lent.flows; record++) {
         size_t place = record_place(trial, record);
         for (size_t i = 0; i < sizeof lengths / sizeof *lengths; i++)
             with_field(trial, place, 4, lengths[i]);
@@ -148,9 +148,9 @@ static void odd_fields(struct trial *trial)
         with_field(trial, place, 4, size + 65536);
         for (size_t i = 0; i < sizeof odd_kinds / sizeof *odd_kinds; i++)
             with_field(trial, place + 4, 2, odd_kinds[i]);
-        for (size_t region = 0; record > 0 && region <= most + 1; region++)
+        for (size_t region = 0; record > 0 && record <= most && region <= most + 1; region++)
             with_field(trial, place + 6, 1, region);
-        for (size_t i = 0; record > 0 && i < 8; i++)
+        for (size_t i = 0; record > 0 && record <= most && i < 8; i++)
             with_field(trial, place + 6, 1, (size_t)1 << i | (record - 1));
         with_field(trial, place + 6, 1, 255);
     }
@@ -206,9 +206,9 @@ static void every_size(void)
     static struct trial trial;
     for (unsigned regions = 1; regions <= 8; regions++)
         for (unsigned services = 0; services <= 10; services++)
-            for (int shuffled = 0; shuffled < 2; shuffled++) {
-                trial_of(&trial, regions, services);
-                if (shuffled)
+            for (int form = 0; form < 4; form++) {
+                trial_of(&trial, regions, services, form < 2 ? 0 : services % 2 ? 1 : -1);
+                if (form % 2)
                     shuffle(&trial);
                 odd_fields(&trial);
                 every_room(&trial);
@@ -284,7 +284,7 @@ static void one_entry(void)
     static struct trial trial;
     static uint8_t told[TRIAL_BYTES];
     uint64_t from = seed;
-    trial_of(&trial, 2, 0);
+    trial_of(&trial, 2, 0, 0);
     memset(&trial.interval, 0, sizeof trial.interval);
     trial.interval.entry = (uint32_t)below(2);
     trial.interval.day_kind = (uint32_t)below(2);

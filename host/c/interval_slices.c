@@ -3,6 +3,7 @@
 #include "interval_slices.h"
 
 #include "guarded.h"
+#include "independent_book.h"
 #include "make.h"
 
 #include <stdio.h>
@@ -65,7 +66,7 @@ int slices_hold(const struct slices *slices, struct lengths lent, const struct i
 uint32_t lent_refusal(const guxhamole_book *book, struct lengths lent)
 {
     struct lengths right = right_lengths(book);
-    if (guxhamole_report(*book, 0, 0).number == GUXHAMOLE_BOOK)
+    if (independent_book_bad(book))
         return GUXHAMOLE_BOOK;
     return lent.prices != right.prices || lent.marks != right.marks || lent.flows != right.flows || lent.factors != right.factors
                ? GUXHAMOLE_LENGTH : GUXHAMOLE_ACCEPTED;
@@ -87,6 +88,10 @@ guxhamole_book any_book(void)
 void damage_book(guxhamole_book *book)
 {
     uint8_t bytes[sizeof *book];
+    if (below(4) == 0) {
+        forge_ends(book);
+        return;
+    }
     memcpy(bytes, book, sizeof bytes);
     size_t at = below(below(2) ? 72 : sizeof bytes);
     bytes[at] = (uint8_t)(below(2) ? below(12) : next());

@@ -29,13 +29,13 @@ struct slices slices_to_read(struct lengths lent, const struct independent_inter
 /* Whether slices to fill hold an interval's numbers, or what they held before where there is none. */
 int slices_hold(const struct slices *slices, struct lengths lent, const struct independent_interval *interval);
 
-/* 10 or 11, or 0: a book is one where the report takes it, which typed_test.c holds to each bound. */
+/* 10 or 11, or 0. */
 uint32_t lent_refusal(const guxhamole_book *book, struct lengths lent);
 
 /* The book of a random image, of any size, with a window of 1. */
 guxhamole_book any_book(void);
 
-/* Changes a byte of the book, which may yet be one. */
+/* Changes the ends of the book's link, or any byte of it; it may yet be one. */
 void damage_book(guxhamole_book *book);
 
 /* Makes one of the lengths wrong. */

@@ -10,8 +10,7 @@
 
 size_t interval_length(const guxhamole_book *book)
 {
-    size_t length = GUXHAMOLE_INTERVAL(book->regions, book->services);
-    return independent_has_link(independent_book_link(book)) ? length + 14 : length;
+    return GUXHAMOLE_INTERVAL(book->regions, book->services, book->from);
 }
 
 size_t record_place(const struct trial *trial, size_t record)
@@ -19,13 +18,19 @@ size_t record_place(const struct trial *trial, size_t record)
     return record == 0 ? trial->at : trial->at + 12 + (record - 1) * (16 + 4 * (trial->book.services + (size_t)1));
 }
 
-guxhamole_book book_of(unsigned regions, unsigned services)
+guxhamole_book book_of(unsigned regions, unsigned services, int linked)
 {
     static int32_t ring[88];
-    guxhamole_settings settings = {(uint8_t)regions, (uint8_t)services, 1, 1, 0, {255, 255, 255, 255, 255, 255, 255, 255}, 90000, 60000,
-                                   -60000};
+    guxhamole_settings settings = {(uint8_t)regions, (uint8_t)services, 1, 1, 0, {255, 255, 255, 255, 255, 255, 255, 255}, 255, 255,
+                                   90000, 60000, -60000};
     for (unsigned region = 1; region < regions; region++)
         settings.parents[region] = (uint8_t)(region - 1);
+    if (regions == 2 && linked != 0)
+        settings.parents[1] = 255;
+    if (regions > 1 && linked != 0) {
+        settings.from = (uint8_t)(linked > 0 ? 0 : regions - 1);
+        settings.to = (uint8_t)(linked > 0 ? regions - 1 : 0);
+    }
     guxhamole_kept kept = guxhamole_open(settings, ring, GUXHAMOLE_RING(regions, services, 1));
     if (kept.number != 0) {
         printf("a book was refused by %u\n", kept.number);
@@ -105,6 +110,13 @@ void any_trial(struct trial *trial)
     trial->room = below(3) == 0 ? below(length + 1) : below(2) ? length : length + below(20);
 }
 
+/* The number of one of the interval's records, the link's twice as often as another. */
+static size_t any_record(const struct trial *trial)
+{
+    size_t records = 1 + independent_places(independent_shape_of(&trial->book)), record = below(records + 1);
+    return record < records ? record : records - 1;
+}
+
 /* One field of one record becomes another number, of those that are almost right, or any. */
 static void damage_field(struct trial *trial)
 {
@@ -114,7 +126,7 @@ static void damage_field(struct trial *trial)
         size_t at;
         int width;
     } fields[] = {{0, 4}, {0, 1}, {4, 2}, {4, 1}, {6, 1}};
-    size_t field = below(sizeof fields / sizeof *fields), record = below(independent_places(independent_shape_of(&trial->book)) + 1);
+    size_t field = below(sizeof fields / sizeof *fields), record = any_record(trial);
     size_t place = record_place(trial, record) + fields[field].at;
     uint64_t old = trial->records[place];
     uint64_t number = below(2) ? numbers[below(sizeof numbers / sizeof *numbers)] : below(2) ? old + 1 : old - 1;
@@ -131,7 +143,7 @@ static void repeat_record(struct trial *trial)
 /* A short record where another is due; the bytes end about where it does. */
 static void end_early(struct trial *trial)
 {
-    size_t place = record_place(trial, below(trial->book.regions + 1u)), length = 5 + below(5);
+    size_t place = record_place(trial, any_record(trial)), length = 5 + below(below(2) ? 5 : 12);
     put_number(trial->records, place, 4, length);
     put_number(trial->records, place + 4, 2, below(2) ? 16 + below(3) : next());
     trial->length = place + length + below(3) - 1;

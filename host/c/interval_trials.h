@@ -5,7 +5,7 @@
 
 #include "interval_slices.h"
 
-enum { INTERVAL_MOST = GUXHAMOLE_INTERVAL(8, 10) + (LINKS_ON ? 14 : 0), TRIAL_BYTES = INTERVAL_MOST + 100 };
+enum { INTERVAL_MOST = GUXHAMOLE_INTERVAL(8, 10, 0), TRIAL_BYTES = INTERVAL_MOST + 100 };
 
 /* What the records are: the interval's, in number order or in another, or whatever damage made of them. */
 enum form { UPWARD, SHUFFLED, DAMAGED };
@@ -25,8 +25,9 @@ size_t interval_length(const guxhamole_book *book);
 /* The place of a record of the interval: 0 is the head, 1 the first region's; the additional link's comes after the last region's. */
 size_t record_place(const struct trial *trial, size_t record);
 
-/* A new book of this size with a window of 1, each region linked to the one before. */
-guxhamole_book book_of(unsigned regions, unsigned services);
+/* A new book of this size with a window of 1, each region linked to the one before. Where `linked` isn't 0, and there is more than one
+   region, it has the additional link too, between the first and the last, named in the order that the sign says; of two it is the only one. */
+guxhamole_book book_of(unsigned regions, unsigned services, int linked);
 
 /* An interval for the book, ranges aside. */
 struct independent_interval any_interval(const guxhamole_book *book);

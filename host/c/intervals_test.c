@@ -57,7 +57,7 @@ static struct trial now;
 
 static void open_worked(void)
 {
-    now.book = book_of(2, 0);
+    now.book = book_of(2, 0, 0);
     now.interval = worked_interval;
     now.lent = right_lengths(&now.book);
     now.room = 52;

@@ -53,9 +53,9 @@ static struct line any_interval(uint32_t number)
     for (int place = 0; place < PRICES; place++)
         line.prices[place] = any_price(place % MARKETS);
     line.marks[SUSPENDED] = below(5) == 0;
-    for (int region = 0; region < REGIONS; region++) {
-        line.flows[region] = (int32_t)within(-1, 1);
-        line.factors[region] = (uint32_t)within(10000, 11000);
+    for (int place = 0; place < LINKS; place++) {
+        line.flows[place] = (int32_t)within(-1, 1);
+        line.factors[place] = (uint32_t)within(10000, 11000);
     }
     return line;
 }
@@ -78,7 +78,7 @@ static struct line refused_interval(uint32_t number)
         line.prices[below(SUSPENDED * MARKETS)] = 10000001;
         break;
     case 4:
-        line.factors[1 + below(REGIONS - 1)] = 9999;
+        line.factors[1 + below(LINKS - 1)] = 9999;
         break;
     default:
         line.marks[0] = 1;

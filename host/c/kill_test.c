@@ -5,8 +5,9 @@
    (kill_rewrites.h). The box plays the lines unkilled, and every beginning of them: what it answers to each line, and the image and
    all reports after it; and the same once more with some of the intervals in the rewritten files, which is how the others are fed.
    Then, moment by moment:
-   - killed: the box is ended by SIGKILL at one of its steps, started again on what the files hold, in every third moment ended
-     once more, and started again. What it said up to its end is a beginning of what the unkilled box says; it comes back with the
+   - killed: the box is ended by SIGKILL at one of its steps, started again on what the files hold (in every fourth moment as an earlier
+     box would have left it, in files of kind 1, where the market has no additional link), in every third moment ended once more, and
+     started again. What it said up to its end is a beginning of what the unkilled box says; it comes back with the
      image and the reports of the lines that it had answered, or of one line more, and its answers from there on and its last
      image are the unkilled box's. An interval that was saved unsaid is sent again, in a line, and refused by 13; in a file of
      records the feeder goes on from the next one.
@@ -38,7 +39,7 @@ enum file_state { FILE_LOADS, FILE_MISSING, FILE_UNUSABLE };
 /* The bytes of details that a box told of each line without answering it, in this moment. */
 static size_t details_told[LINES_MOST + 1];
 
-static int kills, saved_unsaid, in_files, refusals, foreign, fallen_back, not_started, started;
+static int kills, firsts, saved_unsaid, in_files, refusals, foreign, fallen_back, not_started, started;
 
 static uint32_t number_at(const uint8_t *bytes, int width)
 {
@@ -55,7 +56,7 @@ static uint64_t bad_place(const struct image *image)
     for (int region = 0; region < REGIONS; region++)
         for (int market = 0; market < MARKETS; market++)
             for (uint32_t i = number_at(image->bytes + 44 + 2 * region, 2); i > 0; i--, place++) {
-                int32_t price = (int32_t)number_at(image->bytes + 148 + 4 * place, 4);
+                int32_t price = (int32_t)number_at(image->bytes + image_head(image->bytes) + 4 * place, 4);
                 if (price > 10000000 || price < (market == 0 ? -10000000 : 0))
                     return place;
             }
@@ -66,7 +67,38 @@ static int same_market(const uint8_t *bytes)
 {
     guxhamole_settings own = BOX_SETTINGS;
     return bytes[6] == own.regions && bytes[7] == own.services && number_at(bytes + 8, 2) == own.window &&
-           bytes[10] == own.halves && memcmp(bytes + 12, own.parents, sizeof own.parents) == 0;
+           bytes[10] == own.halves && memcmp(bytes + 12, own.parents, sizeof own.parents) == 0 &&
+           independent_image_link(bytes).from == own.from && independent_image_link(bytes).to == own.to;
+}
+
+/* The image of the same book by kind 1, as an earlier box saved it; of a book with a link there is none. And by kind 2 again. */
+static void make_first(struct image *image)
+{
+    if (image->length < IMAGE_HEAD || image->bytes[4] != 2 || BOX_FROM != GUXHAMOLE_NONE)
+        return;
+    image->length -= IMAGE_HEAD - 148;
+    memmove(image->bytes + 148, image->bytes + IMAGE_HEAD, image->length - 148);
+    put_number(image->bytes, 0, 4, image->length);
+    image->bytes[4] = 1;
+}
+
+static void make_second(struct image *image)
+{
+    static const uint8_t none[] = {255, 255, 0, 0, 255, 255, 255, 255};
+    if (image->length < 148 || image->bytes[4] != 1)
+        return;
+    memmove(image->bytes + IMAGE_HEAD, image->bytes + 148, image->length - 148);
+    memcpy(image->bytes + 148, none, sizeof none);
+    image->length += IMAGE_HEAD - 148;
+    put_number(image->bytes, 0, 4, image->length);
+    image->bytes[4] = 2;
+}
+
+/* Of two images, whether they are the same book's, of whatever kinds. */
+static int same_saved(struct image one, const struct image *other)
+{
+    make_second(&one);
+    return image_same(&one, other);
 }
 
 /* What a load of the image into the box's ring is refused by, or 0; 11 stands before 16. */
@@ -140,9 +172,9 @@ static size_t details_of(const char *answer)
    told. */
 static int ahead(const struct image *image, int done)
 {
-    if (image_same(image, &world.images[done]))
+    if (same_saved(*image, &world.images[done]))
         return 0;
-    if (done == world.count || !image_same(image, &world.images[done + 1]))
+    if (done == world.count || !same_saved(*image, &world.images[done + 1]))
         fail("it came back with another book than the last saved one");
     if (details_told[done] != details_of(world.answers[done]))
         fail("a saved interval's details were not told");
@@ -206,10 +238,23 @@ static void play_out(int done)
     const struct image *last = &world.images[world.count];
     if (play(done, 0, 0) != world.count)
         fail("not every line was answered");
-    if (!image_read(world.image, &image) || !image_same(&image, last))
+    if (!image_read(world.image, &image) || !same_saved(image, last))
         fail("its last image is not the unkilled box's");
-    if (!image_read(world.old_image, &image) || (!image_same(&image, last) && !image_same(&image, &world.last_old)))
+    if (!image_read(world.old_image, &image) || (!same_saved(image, last) && !same_saved(image, &world.last_old)))
         fail("its last image but one is not the unkilled box's");
+}
+
+/* What stands on the disk becomes what an earlier box would have left there: files of kind 1. */
+static void to_first(void)
+{
+    const char *const paths[] = {world.image, world.old_image};
+    struct image image;
+    for (int i = 0; i < 2; i++)
+        if (image_read(paths[i], &image)) {
+            make_first(&image);
+            image_write(paths[i], &image);
+            firsts += image.length >= 148 && image.bytes[4] == 1;
+        }
 }
 
 /* The moments divide the steps among them, and each takes one of its share. */
@@ -220,6 +265,8 @@ static void kill_once(int number)
     no_files();
     int done = play(0, 1, 1 + at);
     world.steps[at].killed = 1;
+    if (number % 4 == 1)
+        to_first();
     if (number % 3 == 0)
         done = play(done, 0, 1 + (long)below((uint64_t)world.step_count));
     play_out(done);
@@ -227,13 +274,15 @@ static void kill_once(int number)
 
 static void damage(struct image *image)
 {
-    size_t length = image->length, at = below(2) ? below(148) : below(length);
-    switch (below(6)) {
+    if (below(3) == 0)
+        make_first(image);
+    size_t length = image->length, head = image_head(image->bytes), at = below(2) ? below(head) : below(length);
+    switch (below(7)) {
     case 0:
         image->length = below(length);
         break;
     case 1:
-        image->length = below(4) ? 148 + 4 * below((length - 148) / 4) : 0;
+        image->length = below(4) ? head + 4 * below((length - head) / 4) : below(2) ? 148 + below(9) : 0;
         put_number(image->bytes, 0, 4, image->length);
         break;
     case 2:
@@ -243,6 +292,9 @@ static void damage(struct image *image)
         put_number(image->bytes, 8, 2, 1 + below(2 * WINDOW));
         break;
     case 4:
+        damage_link(image->bytes, length);
+        break;
+    case 5:
         image->bytes[13 + below(REGIONS - 1)] = below(2) ? 255 : 0;
         break;
     default:
@@ -305,7 +357,7 @@ static void damage_once(void)
     image_write(world.old_image, &old);
     if (below(10) != 0)
         image_write(world.image, &image);
-    if (!ask(&image) || !image_same(&image, &world.images[last]))
+    if (!ask(&image) || !same_saved(image, &world.images[last]))
         return;
     /* It fell back to IMAGE.old: it goes on from there, killed or not, and never loses the one good file. */
     fallen_back++;
@@ -371,8 +423,10 @@ int main(int count, char **words)
     check_steps();
     no_files();
     kill_rewrites_counts();
-    printf("%d lines of %d steps, %d kills (%d in a file of records), after %d of them a line more was saved than answered; %d "
+    if (BOX_FROM == GUXHAMOLE_NONE && firsts < 60)
+        fail("too few files of kind 1");
+    printf("%s link: %d lines of %d steps, %d files of kind 1 left by an earlier box, %d kills (%d in a file of records), after %d of them a line more was saved than answered; %d "
            "damaged pairs of files: %d refusals, %d books of another market, %d starts (%d on IMAGE.old), %d times none\n",
-           world.count, world.step_count, kills, in_files, saved_unsaid, DAMAGED, refusals, foreign, started, fallen_back, not_started);
+           BOX_FROM == GUXHAMOLE_NONE ? "without a" : "with a", world.count, world.step_count, firsts, kills, in_files, saved_unsaid, DAMAGED, refusals, foreign, started, fallen_back, not_started);
     return 0;
 }

@@ -21,12 +21,12 @@ void left_differs(const char *what, uint64_t from)
 
 guxhamole_book left_enter(guxhamole_book book, int32_t *ring, size_t places, const int32_t *prices, const uint8_t *marks)
 {
-    static const int32_t schedule[GUXHAMOLE_SCHEDULE(8, 10, 48)] = {0}, flows[8] = {0};
-    static const uint32_t factors[8] = {10000, 10000, 10000, 10000, 10000, 10000, 10000, 10000};
+    static const int32_t schedule[GUXHAMOLE_SCHEDULE(8, 10, 48)] = {0}, flows[9] = {0};
+    static const uint32_t factors[9] = {10000, 10000, 10000, 10000, 10000, 10000, 10000, 10000, 10000};
     int32_t table[88];
-    size_t regions = book.regions, count = GUXHAMOLE_PRICES(book.regions, book.services);
+    size_t regions = book.regions, links = GUXHAMOLE_LINKS(book.regions, book.from), count = GUXHAMOLE_PRICES(book.regions, book.services);
     guxhamole_entered entered =
-        guxhamole_enter(book, ring, places, book.entries, 0, prices, count, marks, regions, flows, regions, factors, regions,
+        guxhamole_enter(book, ring, places, book.entries, 0, prices, count, marks, regions, flows, links, factors, links,
                         schedule, GUXHAMOLE_SCHEDULE(book.regions, book.services, book.halves), table, count);
     if (entered.number != 0)
         left_differs("an entry was refused", seed);
@@ -35,10 +35,10 @@ guxhamole_book left_enter(guxhamole_book book, int32_t *ring, size_t places, con
 
 void running_begin(struct running *running, const guxhamole_settings *settings, int loaded)
 {
-    uint8_t image[BLANK_IMAGE];
-    blank_image(settings, image);
+    uint8_t image[BLANK_LINKED];
+    size_t length = any_blank(settings, image);
     running->places = GUXHAMOLE_RING(settings->regions, settings->services, settings->window);
-    guxhamole_kept kept = loaded ? guxhamole_load(image, sizeof image, running->ring, running->places)
+    guxhamole_kept kept = loaded ? guxhamole_load(image, length, running->ring, running->places)
                                  : guxhamole_open(*settings, running->ring, running->places);
     if (kept.number != 0)
         left_differs("an opening or a blank image was refused", seed);
@@ -47,7 +47,7 @@ void running_begin(struct running *running, const guxhamole_settings *settings, 
     if (loaded)
         independent_ledger_load(&running->ledger, image);
     else
-        independent_ledger_open(&running->ledger, settings, independent_settings_link(settings));
+        independent_ledger_open(&running->ledger, settings);
 }
 
 void running_enter(struct running *running, const int32_t *prices, const uint8_t *marks)
@@ -75,6 +75,8 @@ void any_running(struct running *running)
     for (int region = 1; region < settings.regions; region++)
         if (below(2))
             settings.parents[region] = (uint8_t)below((uint64_t)region);
+    struct independent_link link = below(3) == 0 ? independent_no_link() : any_link(settings.regions, settings.parents);
+    settings.from = link.from, settings.to = link.to;
     settings.threshold = any_threshold(style, settings.window);
     settings.cap = 60000;
     settings.floor = -60000;
@@ -85,11 +87,13 @@ void any_running(struct running *running)
     running->style = style;
 }
 
-/* A store and a load: the windows then begin at their first places. The ledger doesn't see it. */
+/* A store by either kind, if it tells the book, and a load: the windows then begin at their first places. The ledger doesn't see it. */
 static void restart(struct running *running)
 {
     static uint8_t image[GUXHAMOLE_IMAGE_MAX(8, 10, BOOK_WINDOW)];
-    guxhamole_stored stored = guxhamole_store(running->book, running->ring, running->places, image, sizeof image);
+    guxhamole_stored stored = below(2) && running->book.from == GUXHAMOLE_NONE
+                                  ? guxhamole_store(running->book, running->ring, running->places, image, sizeof image)
+                                  : guxhamole_store_kind_2(running->book, running->ring, running->places, image, sizeof image);
     guxhamole_kept kept = guxhamole_load(image, stored.length, running->ring, running->places);
     if (stored.number != 0 || kept.number != 0)
         left_differs("a restart was refused", seed);

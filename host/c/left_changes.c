@@ -190,7 +190,7 @@ static void change_ring(struct question *question)
 static void change_book(struct question *question)
 {
     struct place place = any_market(&question->good);
-    switch (below(6)) {
+    switch (below(7)) {
     case 0:
         question->book.sums[place.sum] = plus(question->book.sums[place.sum], below(2) ? 1 : -1);
         break;
@@ -205,6 +205,9 @@ static void change_book(struct question *question)
         break;
     case 4:
         change_byte(question);
+        break;
+    case 5:
+        forge_ends(&question->book);
         break;
     default:
         if (below(8) == 0)

@@ -4,6 +4,7 @@
    read (paged.h). All from a fixed seed. Exit status 1 with the case at the first difference, or where a kind of question came up
    too seldom. Given a number, it does that part of the random ones alone: `left_test 10` a tenth, for slow checkers. */
 #include "guxhamole.h"
+#include "independent_book.h"
 #include "independent_left.h"
 #include "left_books.h"
 #include "left_changes.h"
@@ -18,14 +19,15 @@
 enum { LISTS = 800, ENTRIES = 40, LARGE = 60 };
 
 /* What is counted of the questions, and how often it must come up in a whole run. */
-enum kind { NONE, ONE, BETWEEN, LAST, NONE_ABOVE, FALLS, NO_GAIN, TURNED, REACHED, NUMBER_KINDS };
+enum kind { NONE, ONE, BETWEEN, LAST, NONE_ABOVE, FALLS, NO_GAIN, TURNED, REACHED, LINKED, NUMBER_KINDS };
 
 static const struct {
     const char *name;
     long least;
 } kinds[NUMBER_KINDS] = {{"none", 10000}, {"1", 10000}, {"between", 3000}, {"W", 800}, {"none though above now", 1500},
                          {"a number though not above after W", 2500}, {"a number by a price of 0 or less", 1000},
-                         {"between with the oldest in mid-window", 1500}, {"the threshold reached on the way", 1200}};
+                         {"between with the oldest in mid-window", 1500}, {"the threshold reached on the way", 1200},
+                         {"of a book with a link", 10000}};
 
 /* Refusals, and pairs of them, by their places in left_refusals: the first is answered, and the second holds too. */
 static const struct {
@@ -34,9 +36,9 @@ static const struct {
 } pairs[] = {{0, 0, 4000}, {1, 1, 1500}, {2, 2, 4000}, {3, 3, 5000}, {4, 4, 2500},
              {1, 2, 250}, {1, 4, 250}, {2, 3, 1000}, {2, 4, 1000}, {3, 4, 900}};
 
-enum { LEAST_ELSEWHERE = 3500 };
+enum { LEAST_ELSEWHERE = 3500, LEAST_ENDS = 500 };
 
-static long questions, cases, unchanged, entered, elsewhere, seen[NUMBER_KINDS], refused[LEFT_REFUSALS][LEFT_REFUSALS];
+static long questions, cases, unchanged, entered, elsewhere, of_ends, seen[NUMBER_KINDS], refused[LEFT_REFUSALS][LEFT_REFUSALS];
 static int part = 1;
 
 /* What is being asked: a worked case, or a random question, from which seed. */
@@ -74,9 +76,10 @@ static void count_number(const struct question *question, const struct independe
     seen[NO_GAIN] += left->intervals > 0 && question->price <= 0;
     seen[TURNED] += between && book->counts[question->region] == window && book->nexts[question->region] != 0;
     seen[REACHED] += left->reached;
+    seen[LINKED] += book->from != GUXHAMOLE_NONE;
 }
 
-static void count_refusal(const struct independent_left *left)
+static void count_refusal(const guxhamole_book *book, const struct independent_left *left)
 {
     int first = 0;
     while (left_refusals[first] != left->number)
@@ -84,13 +87,14 @@ static void count_refusal(const struct independent_left *left)
     for (int i = first; i < LEFT_REFUSALS; i++)
         refused[first][i] += left->holds[i];
     elsewhere += left->elsewhere;
+    of_ends += independent_only_ends_bad(book);
 }
 
 /* Whether a book has the bytes that it had, padding aside, which nobody sets. */
 static int same_bytes(const guxhamole_book *book, const guxhamole_book *before)
 {
     static const size_t from[] = {0, offsetof(guxhamole_book, threshold), offsetof(guxhamole_book, sums)};
-    static const size_t to[] = {offsetof(guxhamole_book, parents) + 8, offsetof(guxhamole_book, nexts) + 16, sizeof *book};
+    static const size_t to[] = {offsetof(guxhamole_book, to) + 1, offsetof(guxhamole_book, nexts) + 16, sizeof *book};
     int same = 1;
     for (int i = 0; i < 3; i++)
         same &= memcmp((const uint8_t *)book + from[i], (const uint8_t *)before + from[i], to[i] - from[i]) == 0;
@@ -117,7 +121,7 @@ static guxhamole_left ask(const char *what, const struct question *question, uin
     if (want.number == 0)
         count_number(question, &want);
     else
-        count_refusal(&want);
+        count_refusal(&question->book, &want);
     questions++;
     return told;
 }
@@ -246,7 +250,7 @@ static const struct worked worked[] = {
 /* Two regions of two markets, open. */
 static void open_worked(uint16_t window, int64_t threshold)
 {
-    guxhamole_settings settings = {2, 1, window, 1, 0, {255, 0, 255, 255, 255, 255, 255, 255}, threshold, 60000, -60000};
+    guxhamole_settings settings = {2, 1, window, 1, 0, {255, 0, 255, 255, 255, 255, 255, 255}, 255, 255, threshold, 60000, -60000};
     running_begin(&running, &settings, 0);
 }
 
@@ -299,7 +303,7 @@ static void worked_cases(void)
         if (worked[i].name[0] == 'E' && memcmp(question.ring + 2 * 4, turned, sizeof turned) != 0)
             differs("another ring than was worked out");
     }
-    guxhamole_settings settings = {1, 0, 2016, 48, 0, {255, 255, 255, 255, 255, 255, 255, 255}, 139810000, 60000, -60000};
+    guxhamole_settings settings = {1, 0, 2016, 48, 0, {255, 255, 255, 255, 255, 255, 255, 255}, 255, 255, 139810000, 60000, -60000};
     static const uint8_t marks[1] = {0};
     static const int32_t old = 5000, price = 1500000;
     running_begin(&running, &settings, 0);
@@ -368,7 +372,7 @@ static void price_cases(void)
 /* Entries, marks and position are not looked at: a full book, which an image brings, and an administered market. */
 static void unread_cases(void)
 {
-    static uint8_t image[148 + 4 * 20];
+    static uint8_t image[GUXHAMOLE_IMAGE_MAX(1, 0, 5)];
     static int32_t ring[5];
     struct plan plan = plain();
     plan.window = 5, plan.entries = 10000000, plan.threshold = 10000, plan.counts[0] = 1, plan.periods[0] = 1, plan.position = 5;
@@ -406,6 +410,7 @@ static void print_counts(void)
         print_count(name, refused[pairs[i].first][pairs[i].second], pairs[i].least);
     }
     print_count("by 22 for other markets alone", elsewhere, LEAST_ELSEWHERE);
+    print_count("by 10 of the ends alone", of_ends, LEAST_ENDS);
     printf("\n");
 }
 

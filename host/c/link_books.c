@@ -5,11 +5,16 @@
 
 #include <string.h>
 
-guxhamole_settings link_settings(struct independent_link *link)
+void link_set(guxhamole_settings *settings, struct independent_link link)
+{
+    settings->from = link.from, settings->to = link.to;
+}
+
+guxhamole_settings link_settings(void)
 {
     guxhamole_settings settings;
     memset(&settings, 0, sizeof settings);
-    settings.regions = (uint8_t)(below(5) ? 3 + below(below(20) ? 4 : 6) : 1 + below(2));
+    settings.regions = (uint8_t)(below(5) ? 3 + below(below(10) ? 4 : 6) : 1 + below(2));
     settings.services = (uint8_t)below(below(5) ? 2 : 11);
     settings.window = (uint16_t)within(1, LINK_WINDOW);
     settings.halves = (uint8_t)within(1, LINK_HALVES);
@@ -21,7 +26,7 @@ guxhamole_settings link_settings(struct independent_link *link)
     settings.threshold = 10000 * within(1, 3 * (int64_t)settings.window);
     settings.cap = below(3) ? 60000 : (int32_t)within(1, 100000);
     settings.floor = below(3) ? -60000 : (int32_t)within(-100000, -1);
-    *link = below(6) == 0 ? independent_no_link() : any_link(settings.regions, settings.parents);
+    link_set(&settings, below(6) == 0 ? independent_no_link() : any_link(settings.regions, settings.parents));
     return settings;
 }
 
@@ -48,21 +53,21 @@ static int above(const guxhamole_settings *settings, unsigned region, unsigned o
 
 int link_closes(const struct independent_ledger *ledger)
 {
-    unsigned root = ledger->link.from;
+    unsigned root = ledger->settings.from;
     if (root == 255)
         return 0;
     while (ledger->settings.parents[root] != 255)
         root = ledger->settings.parents[root];
-    return above(&ledger->settings, root, ledger->link.to);
+    return above(&ledger->settings, root, ledger->settings.to);
 }
 
 /* Power goes over the tree from the link's second end to its first, or the other way: up from one to where the two meet, then down. */
 static void along_tree(const struct independent_ledger *ledger, int32_t way, struct independent_interval *interval)
 {
     const guxhamole_settings *settings = &ledger->settings;
-    for (unsigned region = ledger->link.to; !above(settings, region, ledger->link.from); region = settings->parents[region])
+    for (unsigned region = ledger->settings.to; !above(settings, region, ledger->settings.from); region = settings->parents[region])
         interval->flows[region] = way;
-    for (unsigned region = ledger->link.from; !above(settings, region, ledger->link.to); region = settings->parents[region])
+    for (unsigned region = ledger->settings.from; !above(settings, region, ledger->settings.to); region = settings->parents[region])
         interval->flows[region] = -way;
 }
 
@@ -82,7 +87,7 @@ struct independent_interval link_interval(const struct independent_ledger *ledge
     interval.day_kind = (uint32_t)below(2);
     for (unsigned place = 0; place < regions * markets; place++)
         interval.prices[place] = any_price(place % markets);
-    for (unsigned place = 0; place < regions + (independent_has_link(ledger->link) ? 1u : 0u); place++) {
+    for (unsigned place = 0; place < independent_places(independent_settings_shape(&ledger->settings)); place++) {
         interval.flows[place] = any_link_flow();
         interval.factors[place] = any_link_factor();
         if (place < regions)

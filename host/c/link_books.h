@@ -7,8 +7,10 @@
 
 enum { LINK_WINDOW = 4, LINK_HALVES = 2, LINK_RING = 88 * LINK_WINDOW, LINK_SCHEDULE = 88 * 2 * LINK_HALVES };
 
-/* Settings that an opening takes, and a link for them, one in six none. */
-guxhamole_settings link_settings(struct independent_link *link);
+/* Settings that an opening takes; one in six has no link. */
+guxhamole_settings link_settings(void);
+
+void link_set(guxhamole_settings *settings, struct independent_link link);
 
 /* The ends that are good, by a table of all pairs. */
 int link_ends_good(unsigned regions, const uint8_t *parents, struct independent_link link);

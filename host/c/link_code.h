@@ -1,5 +1,5 @@
-/* The independent code of books with an additional link (request 2026-10) as a table of its functions, so that the tests of it can be run
-   on the code as it is and on wrong variants of it, which they must tell apart. Nothing here calls the archive. */
+/* The code of books with an additional link (request 2026-10) as a table of its functions, so that the same tests can be run on the
+   independent code, on wrong variants of it, which they must tell apart, and on the archive. */
 #ifndef LINK_CODE_H
 #define LINK_CODE_H
 
@@ -8,27 +8,27 @@
 #include "independent_image.h"
 
 struct link_code {
-    uint32_t (*opening)(const guxhamole_settings *settings, struct independent_link link, size_t ring_length);
+    uint32_t (*opening)(const guxhamole_settings *settings, size_t ring_length);
     int (*lengths_bad)(const struct independent_ledger *ledger, const struct independent_lengths *lent);
     struct independent_refusal (*refusal)(const struct independent_ledger *ledger, const struct independent_interval *interval);
     uint32_t (*publish)(const struct independent_ledger *ledger, const struct independent_interval *interval, const int32_t *schedule,
                         int32_t *table);
     uint32_t (*restart)(const struct independent_ledger *ledger, unsigned kind, size_t room, size_t other_length);
-    uint32_t (*store)(const guxhamole_book *book, struct independent_link link, const int32_t *ring, size_t ring_length, unsigned kind,
-                      uint8_t *buffer, size_t room, size_t *length);
-    struct independent_refusal (*load)(const uint8_t *image, size_t length, unsigned kinds, int32_t *ring, size_t ring_length,
-                                       guxhamole_book *book, struct independent_link *link);
+    uint32_t (*store)(const guxhamole_book *book, const int32_t *ring, size_t ring_length, unsigned kind, uint8_t *buffer, size_t room,
+                      size_t *length);
+    struct independent_refusal (*load)(const uint8_t *image, size_t length, int32_t *ring, size_t ring_length, guxhamole_book *book);
     uint32_t (*read)(struct independent_shape shape, const uint8_t *records, size_t length, size_t at,
                      struct independent_interval *interval, size_t *after);
     size_t (*write)(struct independent_shape shape, const struct independent_interval *interval, const unsigned *order, uint8_t *records);
     uint32_t (*rewrite)(struct independent_shape shape, const uint8_t *records, size_t length, size_t at, uint8_t *buffer, size_t room,
                         size_t *after);
     uint32_t (*draw)(struct independent_shape shape, uint32_t seed, struct independent_interval *interval);
-    struct independent_billed (*bill)(const struct independent_bill *bill, struct independent_ledger *ledger, int32_t *work);
+    guxhamole_billed (*bill)(const struct independent_bill *bill, int32_t *work); /* on a ledger made from the book */
 };
 
-/* The code as it is; and wrong variant `i`, with what is wrong with it. */
+/* The independent code as it is, the archive, and wrong variant `i` of the former, with what is wrong with it. */
 struct link_code link_right(void);
+struct link_code link_archive(void);
 struct link_code link_wrong(size_t i, const char **name);
 size_t link_wrongs(void);
 

@@ -34,8 +34,8 @@ static struct net net_of(const struct independent_ledger *ledger, const struct i
     for (unsigned region = 0; region < regions; region++)
         if (ledger->settings.parents[region] != 255)
             carry(&net, region, ledger->settings.parents[region], interval->flows[region], interval->factors[region]);
-    if (ledger->link.from != 255)
-        carry(&net, ledger->link.from, ledger->link.to, interval->flows[regions], interval->factors[regions]);
+    if (ledger->settings.from != 255)
+        carry(&net, ledger->settings.from, ledger->settings.to, interval->flows[regions], interval->factors[regions]);
     return net;
 }
 

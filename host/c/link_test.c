@@ -1,7 +1,7 @@
-/* Tests the independent code of books with an additional link (request 2026-10) on its own: the cases that were worked out (link_cases.h),
-   and random books, images, records, test loads and bills (link_trials.h), limits being held to every permutation of the regions as a
-   route. Then wrong variants of the code must each be told apart by the cases or the random ones. No proved function is called. All from
-   a fixed seed. Exit status 1 with the case at the first difference, or where something came up too seldom. Given a number, it does that
+/* Tests the independent code of books with an additional link (request 2026-10) and the archive, one after the other: the cases that were
+   worked out (link_cases.h), and random books, images, records, test loads and bills (link_trials.h), limits being held to every
+   permutation of the regions as a route. Then wrong variants of the independent code must each be told apart by the cases or the random
+   ones. All from a fixed seed. Exit status 1 with the case at the first difference, or where something came up too seldom. Given a number, it does that
    part of the random ones alone: `link_test 10` a tenth, for slow checkers. */
 #include "link_cases.h"
 #include "link_trials.h"
@@ -11,7 +11,7 @@
 #include <stdlib.h>
 #include <string.h>
 
-enum { TRIALS = 3000, VARIANT_TRIALS = 300 };
+enum { TRIALS = 3000, VARIANT_TRIALS = 300, FIRST_SEED = 20261115 };
 
 struct link_tally link_tally;
 
@@ -67,20 +67,28 @@ static void variant(size_t i, int *by_cases, int *by_trials)
     }
 }
 
+/* The whole test of one of the two; each starts from the same seed. */
+static void test(const char *whose, struct link_code code, int part)
+{
+    seed = FIRST_SEED;
+    memset(&link_tally, 0, sizeof link_tally);
+    link_cases(&code);
+    fail_if_any(whose);
+    long cases = link_tally.held;
+    trials(&code, TRIALS / part);
+    fail_if_any(whose);
+    printf("links, %s: %ld answers of worked cases, %ld of random ones", whose, cases, link_tally.held - cases);
+    link_counts(part);
+    printf("\n");
+}
+
 int main(int count, char **words)
 {
     int part = count > 1 && atoi(words[1]) > 0 ? atoi(words[1]) : 1, by_cases = 0, by_trials = 0;
-    struct link_code code = link_right();
-    make_links = 1;
-    link_cases(&code);
-    fail_if_any("a worked case");
-    long cases = link_tally.held;
-    trials(&code, TRIALS / part);
-    fail_if_any("a random one");
-    printf("links: %ld answers of worked cases, %ld of random ones", cases, link_tally.held - cases);
-    link_counts(part);
+    test("the independent code", link_right(), part);
+    test("the archive", link_archive(), part);
     for (size_t i = 0; i < link_wrongs(); i++)
         variant(i, &by_cases, &by_trials);
-    printf("; %zu wrong variants told apart, %d by the cases, %d by the random ones\n", link_wrongs(), by_cases, by_trials);
+    printf("links: %zu wrong variants told apart, %d by the cases, %d by the random ones\n", link_wrongs(), by_cases, by_trials);
     return 0;
 }

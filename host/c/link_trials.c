@@ -12,13 +12,15 @@
 #include <stdlib.h>
 #include <string.h>
 
-enum { ENTRIES = 24, IMAGE_MOST = IMAGE_HEAD + 4 * LINK_RING, RECORDS_MOST = 2 * (GUXHAMOLE_INTERVAL(8, 10) + 14), DAY = 6 };
+enum { ENTRIES = 24, IMAGE_MOST = IMAGE_HEAD + 4 * LINK_RING, RECORDS_MOST = 2 * GUXHAMOLE_INTERVAL(8, 10, 0), DAY = 6 };
 
 /* What is counted, and how often it must come up in a whole run. */
 enum kind {
-    BEGUN_1, BEGUN_2, BOOKS, CLOSING, NOT_CLOSING, WITHOUT, BAD_ENDS, ENTERED, ROUND, TWO, CHANGED, REFUSED_17,
+    BEGUN_1, BEGUN_2, BOOKS, CLOSING, NOT_CLOSING, WITHOUT, ONE_REGION, EIGHT, UP_ENDS, DOWN_ENDS, BAD_ENDS,
+    ENTERED, FLOW_BACK, FLOW_NONE, FLOW_ON, FACTOR_LEAST, FACTOR_MOST, ROUND, TWO, CHANGED, REFUSED_17,
     RESTARTS_1, RESTARTS_2, BY_47, BY_23, BY_11,
-    LOADED_1, LOADED_2, LINKED, RELABELLED, BY_24, BY_25, BY_26, BY_27, BY_16, READ, REWRITTEN, BY_40, BY_41, DRAWN, BILLS, KINDS
+    LOADED_1, LOADED_2, LINKED, RELABELLED, BY_24, BY_25, BY_26, BY_27, BY_16, CUT_24, CUT_25, CUT_26, CUT_27,
+    READ, REWRITTEN, BY_40, BY_41, NOT_DUE, DRAWN, BILLS, BILLS_17, BILLS_10, KINDS
 };
 
 static const struct {
@@ -26,33 +28,50 @@ static const struct {
     long least;
 } kinds[KINDS] = {
     {"begun from an image of kind 1", 300}, {"of kind 2", 1500},
-    {"books", 2000}, {"whose link closes a ring", 1000}, {"joins two parts", 300}, {"without a link", 400}, {"ends refused by 20", 1200},
-    {"entries", 40000}, {"with power round a ring", 3000}, {"by two routes", 3000}, {"prices changed", 100000}, {"refused by 17", 1500},
+    {"books", 2000}, {"whose link closes a ring", 1000}, {"joins two parts", 300}, {"without a link", 400}, {"of one region", 200}, {"of eight", 25},
+    {"links from a lower region", 900}, {"from a higher one", 900}, {"ends refused by 20", 1200},
+    {"entries", 40000}, {"with the link's flow below 0", 14000}, {"of 0", 6000}, {"above 0", 14000}, {"with its factor of 10,000", 4000},
+    {"of 20,000", 4000}, {"with power round a ring", 3000}, {"by two routes", 3000}, {"prices changed", 100000}, {"refused by 17", 1500},
     {"restarts by kind 1", 800}, {"by kind 2", 3000}, {"refused by 47", 3000}, {"by 23", 1500}, {"by 11", 1000},
     {"images of kind 1 loaded", 3000}, {"of kind 2", 3000}, {"with a link", 1500}, {"of another kind than they were", 800},
-    {"refused by 24", 30}, {"by 25", 800}, {"by 26", 1500}, {"by 27", 200}, {"by 16", 2000},
-    {"intervals read", 8000}, {"rewritten from another order", 3000}, {"refused by 40", 6000}, {"by 41", 3000}, {"test loads", 4000},
-    {"bills", 1500}};
+    {"refused by 24", 20}, {"by 25", 800}, {"by 26", 1500}, {"by 27", 200}, {"by 16", 2000},
+    {"cut to 148 to 156 bytes, refused by 24", 1000}, {"by 25", 1000}, {"by 26", 50}, {"by 27", 1000},
+    {"intervals read", 8000}, {"rewritten from another order", 3000}, {"refused by 40", 6000}, {"by 41", 3000},
+    {"records of the link where none is due", 4000}, {"test loads", 4000}, {"bills", 1500}, {"refused by 17 of the link", 3000},
+    {"by 10 of the ends", 3000}};
 
 static long seen[KINDS];
 static struct independent_ledger ledger, other;
 
+static void count_book(void)
+{
+    const guxhamole_settings *settings = &ledger.settings;
+    int linked = independent_has_link(independent_settings_link(settings));
+    seen[BOOKS]++;
+    seen[linked ? link_closes(&ledger) ? CLOSING : NOT_CLOSING : WITHOUT]++;
+    seen[ONE_REGION] += settings->regions == 1;
+    seen[EIGHT] += settings->regions == 8;
+    seen[UP_ENDS] += linked && settings->from < settings->to;
+    seen[DOWN_ENDS] += linked && settings->from > settings->to;
+}
+
 /* An opening with any ends: 20 exactly where a table of all pairs has them not. */
 static void try_ends(const struct link_code *code)
 {
-    const guxhamole_settings *settings = &ledger.settings;
-    size_t places = GUXHAMOLE_RING(settings->regions, settings->services, settings->window);
-    struct independent_link link = any_ends(settings->regions, settings->parents);
-    int good = link_ends_good(settings->regions, settings->parents, link);
+    guxhamole_settings settings = ledger.settings;
+    size_t places = GUXHAMOLE_RING(settings.regions, settings.services, settings.window);
+    struct independent_link link = any_ends(settings.regions, settings.parents);
+    int good = link_ends_good(settings.regions, settings.parents, link);
+    link_set(&settings, link);
     seen[BAD_ENDS] += !good;
-    link_hold((code->opening(settings, link, places) == 20) == !good, "an opening's ends");
+    link_hold((code->opening(&settings, places) == 20) == !good, "an opening's ends");
 }
 
 /* One factor out of range, or more: 17 at the first place of those that are looked at. */
 static void try_factors(const struct link_code *code, const struct independent_interval *interval)
 {
     struct independent_interval bad = *interval;
-    size_t places = independent_places(independent_shape_with(ledger.settings.regions, ledger.settings.services, ledger.link)), first;
+    size_t places = independent_places(independent_settings_shape(&ledger.settings)), first;
     for (int i = 0; i < 2; i++) {
         size_t place = below(2) ? places - 1 : below(places);
         bad.factors[place] = below(2) ? 9999 : 20001;
@@ -72,21 +91,34 @@ static void restart(const struct link_code *code)
     static uint8_t image[IMAGE_MOST];
     static int32_t ring[LINK_RING], loaded_ring[LINK_RING + 1];
     guxhamole_book book, loaded;
-    struct independent_link link;
     unsigned kind = 1 + (unsigned)below(2);
     size_t places = GUXHAMOLE_RING(ledger.settings.regions, ledger.settings.services, ledger.settings.window), length = 0;
     independent_book_of(&other, &book, ring);
     size_t room = independent_image_length(&book, kind) - (below(5) == 0 ? 1 : 0), lent = places + (below(5) == 0 ? 1 : 0);
-    uint32_t number = code->store(&book, other.link, ring, places, kind, image, room, &length);
+    uint32_t number = code->store(&book, ring, places, kind, image, room, &length);
     if (number == 0)
-        number = code->load(image, length, 2, loaded_ring, lent, &loaded, &link).number;
+        number = code->load(image, length, loaded_ring, lent, &loaded).number;
     link_hold(code->restart(&other, kind, room, lent) == number, "a restart's number");
     link_hold(number == 0 || number == 47 || number == 23 || number == 11, "a restart's refusal");
     seen[BY_47] += number == 47, seen[BY_23] += number == 23, seen[BY_11] += number == 11;
     if (number != 0)
         return;
     seen[kind == 1 ? RESTARTS_1 : RESTARTS_2]++;
-    independent_ledger_of(&other, &loaded, link, loaded_ring);
+    independent_ledger_of(&other, &loaded, loaded_ring);
+}
+
+static void count_entry(const struct independent_interval *interval)
+{
+    unsigned last = ledger.settings.regions;
+    int linked = ledger.settings.from != 255;
+    seen[ENTERED]++;
+    seen[FLOW_BACK] += linked && interval->flows[last] < 0;
+    seen[FLOW_NONE] += linked && interval->flows[last] == 0;
+    seen[FLOW_ON] += linked && interval->flows[last] > 0;
+    seen[FACTOR_LEAST] += linked && interval->factors[last] == 10000;
+    seen[FACTOR_MOST] += linked && interval->factors[last] == 20000;
+    seen[ROUND] += link_ring_carries(&ledger, interval);
+    seen[TWO] += link_two_routes(&ledger, interval);
 }
 
 /* One interval on both ledgers: the second has restarted now and then. */
@@ -106,10 +138,8 @@ static void enter(const struct link_code *code)
         try_factors(code, &interval);
     independent_ledger_enter(&ledger, interval.prices, interval.marks);
     independent_ledger_enter(&other, interval.prices, interval.marks);
-    seen[ENTERED]++;
     seen[CHANGED] += count;
-    seen[ROUND] += link_ring_carries(&ledger, &interval);
-    seen[TWO] += link_two_routes(&ledger, &interval);
+    count_entry(&interval);
 }
 
 static void compare_reports(void)
@@ -129,38 +159,31 @@ static void begin(const struct link_code *code)
     uint8_t image[BLANK_LINKED];
     int32_t ring[LINK_RING];
     guxhamole_book book;
-    struct independent_link link, loaded;
     link_tally.from = seed;
-    guxhamole_settings settings = link_settings(&link);
+    guxhamole_settings settings = link_settings();
     if (below(3) != 0) {
-        independent_ledger_open(&ledger, &settings, link);
-        independent_ledger_open(&other, &settings, link);
+        independent_ledger_open(&ledger, &settings);
+        independent_ledger_open(&other, &settings);
         return;
     }
-    int plain_kind = !independent_has_link(link) && below(2);
     settings.threshold = threshold_beside(settings.threshold);
-    if (plain_kind)
-        blank_image(&settings, image);
-    else
-        blank_linked(&settings, link, image);
-    link_hold(code->load(image, plain_kind ? (size_t)BLANK_IMAGE : (size_t)BLANK_LINKED, 2, ring,
-                         GUXHAMOLE_RING(settings.regions, settings.services, settings.window), &book, &loaded).number == 0 &&
-                  loaded.from == link.from && loaded.to == link.to, "a blank image");
+    size_t length = any_blank(&settings, image);
+    link_hold(code->load(image, length, ring, GUXHAMOLE_RING(settings.regions, settings.services, settings.window), &book).number == 0 &&
+                  book.from == settings.from && book.to == settings.to, "a blank image");
     independent_ledger_load(&ledger, image);
     independent_ledger_load(&other, image);
-    link_hold(ledger.link.from == link.from && ledger.link.to == link.to, "a ledger's link from an image");
-    seen[BEGUN_1] += plain_kind, seen[BEGUN_2] += !plain_kind;
+    link_hold(ledger.settings.from == settings.from && ledger.settings.to == settings.to, "a ledger's link from an image");
+    seen[length == BLANK_IMAGE ? BEGUN_1 : BEGUN_2]++;
 }
 
 void link_book_trial(const struct link_code *code)
 {
     begin(code);
     struct independent_lengths lent = independent_entry_lengths(&ledger);
-    link_hold(code->opening(&ledger.settings, ledger.link, lent.ring) == (ledger.settings.threshold % 10000 != 0 ? 44u : 0u), "an opening");
+    link_hold(code->opening(&ledger.settings, lent.ring) == (ledger.settings.threshold % 10000 != 0 ? 44u : 0u), "an opening");
     link_hold(!code->lengths_bad(&ledger, &lent), "an entry's lengths");
     try_ends(code);
-    seen[BOOKS]++;
-    seen[independent_has_link(ledger.link) ? link_closes(&ledger) ? CLOSING : NOT_CLOSING : WITHOUT]++;
+    count_book();
     for (int i = 0; i < ENTRIES && link_tally.failed == 0; i++) {
         enter(code);
         if (below(3) == 0)
@@ -191,29 +214,40 @@ static void load(const struct link_code *code, const uint8_t *image, size_t leng
     static uint8_t back[IMAGE_MOST];
     static int32_t ring[LINK_RING];
     guxhamole_book book;
-    struct independent_link link;
     size_t places = GUXHAMOLE_RING(image[6], image[7], image[8]), stored = 0;
     int stayed = 1;
     for (size_t i = 0; i < places; i++)
         ring[i] = 7;
-    struct independent_refusal refusal = code->load(image, length, 2, ring, places, &book, &link);
+    struct independent_refusal refusal = code->load(image, length, ring, places, &book);
     link_hold(refusal.number == number && refusal.place == place, "a load's answer");
-    if (number == 25)
-        link_hold(code->load(image, length, 1, ring, places, &book, &link).number == 25, "a load where kind 2 isn't known");
     if (refusal.number != 0) {
         for (size_t i = 0; i < places; i++)
             stayed &= ring[i] == 7;
         link_hold(stayed, "a refused load's ring");
-        link_hold(is_closed(&book) && link.from == 0 && link.to == 0, "a refused load's book");
+        link_hold(is_closed(&book), "a refused load's book");
         return;
     }
-    link_hold(!independent_book_bad(&book, link) && !independent_ring_bad(&book, ring), "a loaded book is one");
-    number = code->store(&book, link, ring, places, image[4], back, length, &stored);
+    link_hold(!independent_book_bad(&book) && !independent_ring_bad(&book, ring), "a loaded book is one");
+    number = code->store(&book, ring, places, image[4], back, length, &stored);
     link_hold(number == 0 && stored == length && memcmp(back, image, length) == 0, "a loaded image is stored back");
-    number = code->store(&book, link, ring, places, 1, back, sizeof back, &stored);
-    link_hold(number == (independent_has_link(link) ? 47u : 0u), "47 exactly with the link");
+    number = code->store(&book, ring, places, 1, back, sizeof back, &stored);
+    link_hold(number == (independent_has_link(independent_book_link(&book)) ? 47u : 0u), "47 exactly with the link");
     seen[image[4] == 1 ? LOADED_1 : LOADED_2]++;
-    seen[LINKED] += independent_has_link(link);
+    seen[LINKED] += independent_has_link(independent_book_link(&book));
+}
+
+/* An image of three prices or more, cut to 148 to 156 bytes that its length field says, and said to be of any kind. */
+static void cut_image(const struct link_code *code, const uint8_t *image)
+{
+    static const uint8_t said[] = {1, 2, 2, 3};
+    uint8_t cut[IMAGE_HEAD];
+    size_t length = 148 + below(9);
+    memcpy(cut, image, sizeof cut);
+    put_number(cut, 0, 4, length);
+    cut[4] = said[below(sizeof said)];
+    uint32_t number = cut[4] == 2 && length == IMAGE_HEAD ? expected(cut, length, 1) : cut[4] == 1 ? 27 : cut[4] == 2 ? 24 : 25;
+    load(code, cut, length, number, 0);
+    seen[CUT_24 + (int)number - 24]++;
 }
 
 /* A random image as it is, with a price out of range, said to be of another kind, and damaged at the link. */
@@ -231,6 +265,8 @@ void link_image_trial(const struct link_code *code)
         load(code, damaged, length, 16, place);
         seen[BY_16]++;
     }
+    if (places > 2)
+        cut_image(code, image);
     for (int i = 0; i < 2; i++) {
         memcpy(damaged, image, length);
         damage_link(damaged, length);
@@ -307,10 +343,10 @@ void link_record_trial(const struct link_code *code)
     static uint8_t records[RECORDS_MOST], shuffled[RECORDS_MOST], buffer[RECORDS_MOST];
     struct independent_interval back;
     link_tally.from = seed;
-    struct independent_shape shape = {1, 0, 0, 1};
+    struct independent_shape shape = {1, 0, 0};
     shape.regions = 1 + (unsigned)below(8);
     shape.services = (unsigned)below(below(2) ? 2 : 11);
-    shape.linked = below(3) != 0;
+    shape.linked = shape.regions > 1 && below(3) != 0;
     struct independent_interval interval = link_numbers(shape);
     size_t length = code->write(shape, &interval, upward, records), after = 0;
     link_hold(length == independent_interval_bytes(shape), "an interval's bytes");
@@ -332,17 +368,20 @@ void link_record_trial(const struct link_code *code)
         damage_record(code, shape, records, length);
         shape.linked = 0;
         link_hold(code->read(shape, records, length, 0, &back, &after) == 0 && after == length - 14 &&
-                      back.flows[shape.regions % 8] == (shape.regions == 8 ? interval.flows[0] : 0), "a link's record isn't looked at");
+                      back.flows[shape.regions] == 0, "a link's record isn't looked at");
+        seen[NOT_DUE]++;
     }
 }
 
 /* The link's pair is drawn last, from where a load without it ends. */
 static void draw(const struct link_code *code)
 {
-    struct independent_shape shape = {ledger.settings.regions, ledger.settings.services, 0, 1};
+    struct independent_shape shape = {ledger.settings.regions, ledger.settings.services, 0};
     struct independent_interval without, with;
     uint32_t from = (uint32_t)next();
     uint64_t s = code->draw(shape, from, &without);
+    if (shape.regions == 1)
+        return;
     shape.linked = 1;
     uint32_t last = code->draw(shape, from, &with);
     s = (s * 1664525 + 1013904223) & 0xffffffff;
@@ -355,7 +394,7 @@ static void draw(const struct link_code *code)
 
 /* A day's records and lines, each price by permutations. */
 struct day {
-    uint8_t records[DAY * (GUXHAMOLE_INTERVAL(8, 10) + 14)];
+    uint8_t records[DAY * GUXHAMOLE_INTERVAL(8, 10, 0)];
     size_t length;
     uint32_t numbers[DAY], energy[DAY];
     int32_t prices[DAY];
@@ -365,7 +404,7 @@ struct day {
 static void make_day(struct day *day, uint32_t region)
 {
     static const unsigned upward[] = {0, 1, 2, 3, 4, 5, 6, 7};
-    struct independent_shape shape = independent_shape_with(ledger.settings.regions, ledger.settings.services, ledger.link);
+    struct independent_shape shape = independent_settings_shape(&ledger.settings);
     int32_t table[88];
     day->length = 0;
     for (int i = 0; i < DAY; i++) {
@@ -380,21 +419,35 @@ static void make_day(struct day *day, uint32_t region)
     }
 }
 
-/* 10, of a book's ends that no opening takes. */
-static void bill_ends(const struct link_code *code, struct independent_bill bill, int32_t *work)
+/* What the bill is answered; the second ring is what the accepted intervals make of the book's, or as it was where none is played. */
+static guxhamole_billed billed_by(const struct link_code *code, const struct independent_bill *bill, size_t accepted)
 {
-    bill.link = any_ends(ledger.settings.regions, ledger.settings.parents);
-    if (link_ends_good(ledger.settings.regions, ledger.settings.parents, bill.link))
+    static int32_t work[LINK_RING + 1], wanted[LINK_RING + 1];
+    for (size_t i = 0; i < LINK_RING + 1; i++)
+        work[i] = wanted[i] = 7;
+    guxhamole_billed billed = code->bill(bill, work);
+    struct independent_billed want = independent_billed_of(bill, NULL, wanted);
+    link_hold(want.accepted == accepted, "a bill's accepted intervals");
+    link_hold(memcmp(work, wanted, sizeof work) == 0, "a bill's second ring");
+    return billed;
+}
+
+/* 10, of a book's ends that no opening takes, before 11. */
+static void bill_ends(const struct link_code *code, struct independent_bill bill)
+{
+    struct independent_link link = any_ends(ledger.settings.regions, ledger.settings.parents);
+    if (link_ends_good(ledger.settings.regions, ledger.settings.parents, link))
         return;
+    bill.book.from = link.from, bill.book.to = link.to;
     bill.work_length++;
-    struct independent_billed billed = code->bill(&bill, NULL, work);
-    link_hold(billed.number == 10 && !billed.played, "a bill's ends");
+    link_hold(billed_by(code, &bill, 0).number == 10, "a bill's ends");
+    seen[BILLS_10]++;
 }
 
 void link_bill_trial(const struct link_code *code)
 {
     static struct day day;
-    static int32_t ring[LINK_RING], work[LINK_RING];
+    static int32_t ring[LINK_RING];
     guxhamole_book book;
     begin(code);
     draw(code);
@@ -407,19 +460,20 @@ void link_bill_trial(const struct link_code *code)
     struct independent_lengths lent = independent_entry_lengths(&ledger);
     uint32_t region = (uint32_t)below(ledger.settings.regions), line = (uint32_t)below(DAY);
     make_day(&day, region);
-    struct independent_bill bill = {book, ledger.link, ring, lent.ring, lent.ring, day.records, day.length, link_schedule(), lent.schedule,
+    struct independent_bill bill = {book, ring, lent.ring, lent.ring, day.records, day.length, link_schedule(), lent.schedule,
                                     region, day.numbers, day.energy, day.prices, day.amounts, DAY, DAY, DAY, DAY};
-    struct independent_billed billed = code->bill(&bill, below(2) ? &ledger : NULL, work);
-    link_hold(billed.number == 0 && billed.right == 1 && billed.accepted == DAY, "a right bill");
+    guxhamole_billed billed = billed_by(code, &bill, DAY);
+    link_hold(billed.number == 0 && billed.right == 1, "a right bill");
     day.prices[line]++;
-    billed = code->bill(&bill, NULL, work);
+    billed = billed_by(code, &bill, DAY);
     link_hold(billed.number == 0 && billed.right == 0 && billed.line == line, "a bill's wrong line");
-    if (independent_has_link(ledger.link)) {
+    if (bill.book.from != 255) {
         put_number(day.records, day.length / DAY * (line + 1) - 4, 4, 9999);
-        billed = code->bill(&bill, NULL, work);
-        link_hold(billed.number == 17 && billed.place == ledger.settings.regions && billed.accepted == line, "a bill's 17 of the link");
+        billed = billed_by(code, &bill, line);
+        link_hold(billed.number == 17 && billed.place == ledger.settings.regions, "a bill's 17 of the link");
+        seen[BILLS_17]++;
     }
-    bill_ends(code, bill, work);
+    bill_ends(code, bill);
     seen[BILLS]++;
 }
 
@@ -431,5 +485,6 @@ void link_counts(int part)
             printf("\nlink test: too few of these\n");
             exit(1);
         }
+        seen[kind] = 0;
     }
 }

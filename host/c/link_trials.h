@@ -11,7 +11,7 @@ void link_image_trial(const struct link_code *code);
 void link_record_trial(const struct link_code *code);
 void link_bill_trial(const struct link_code *code);
 
-/* Prints what came up; ends where something came up too seldom for a test of which one in `part` is done. */
+/* Prints what came up, and counts from 0 again; ends where something came up too seldom for a test of which one in `part` is done. */
 void link_counts(int part);
 
 #endif

@@ -6,11 +6,18 @@
 
 #include <string.h>
 
+static guxhamole_billed billed_of(const struct independent_bill *bill, int32_t *work)
+{
+    struct independent_billed billed = independent_billed_of(bill, NULL, work);
+    guxhamole_billed told = {billed.number, billed.place, billed.right, billed.line};
+    return told;
+}
+
 struct link_code link_right(void)
 {
     struct link_code code = {independent_opening, independent_lengths_bad, independent_entry_refusal, independent_entry_publish,
                              independent_ledger_restart, independent_store, independent_load, independent_interval_read,
-                             independent_interval_write, independent_interval_rewrite, independent_synthetic, independent_billed_of};
+                             independent_interval_write, independent_interval_rewrite, independent_synthetic, billed_of};
     return code;
 }
 
@@ -58,7 +65,7 @@ static uint32_t link_left_out(const struct independent_ledger *ledger, const str
 static int link_factor_bad(const struct independent_ledger *ledger, const struct independent_interval *interval)
 {
     uint32_t factor = interval->factors[ledger->settings.regions];
-    return independent_has_link(ledger->link) && (factor < 10000 || factor > 20000);
+    return independent_has_link(independent_settings_link(&ledger->settings)) && (factor < 10000 || factor > 20000);
 }
 
 /* 17 of the link before 17 of a region. */
@@ -83,22 +90,23 @@ static struct independent_refusal still_link(const struct independent_ledger *le
 static int lengths_as_before(const struct independent_ledger *ledger, const struct independent_lengths *lent)
 {
     struct independent_lengths other = *lent;
-    if (independent_has_link(ledger->link))
+    if (independent_has_link(independent_settings_link(&ledger->settings)))
         other.flows++, other.factors++;
     return independent_lengths_bad(ledger, &other);
 }
 
 /* The first end's parent alone is looked at. */
-static uint32_t one_parent(const guxhamole_settings *settings, struct independent_link link, size_t ring_length)
+static uint32_t one_parent(const guxhamole_settings *settings, size_t ring_length)
 {
-    if (link.to < 8 && link.from < settings->regions && settings->parents[link.to] == link.from)
-        link = independent_no_link();
-    return independent_opening(settings, link, ring_length);
+    guxhamole_settings other = *settings;
+    if (other.to < 8 && other.from < other.regions && other.parents[other.to] == other.from)
+        other.from = other.to = 255;
+    return independent_opening(&other, ring_length);
 }
 
-static uint32_t upward_ends(const guxhamole_settings *settings, struct independent_link link, size_t ring_length)
+static uint32_t upward_ends(const guxhamole_settings *settings, size_t ring_length)
 {
-    return link.from != 255 && link.from > link.to ? 20 : independent_opening(settings, link, ring_length);
+    return settings->from != 255 && settings->from > settings->to ? 20 : independent_opening(settings, ring_length);
 }
 
 static const char *wrong_entry(size_t i, struct link_code *code)
@@ -121,10 +129,10 @@ static const char *wrong_entry(size_t i, struct link_code *code)
 
 /* Images. */
 
-static uint32_t from_148(const guxhamole_book *book, struct independent_link link, const int32_t *ring, size_t ring_length, unsigned kind,
+static uint32_t from_148(const guxhamole_book *book, const int32_t *ring, size_t ring_length, unsigned kind,
                          uint8_t *buffer, size_t room, size_t *length)
 {
-    uint32_t number = independent_store(book, link, ring, ring_length, kind, buffer, room, length);
+    uint32_t number = independent_store(book, ring, ring_length, kind, buffer, room, length);
     if (number == 0 && kind == 2) {
         *length -= 8;
         memmove(buffer + 148, buffer + 156, *length - 148);
@@ -133,75 +141,78 @@ static uint32_t from_148(const guxhamole_book *book, struct independent_link lin
     return number;
 }
 
-static uint32_t buffer_first(const guxhamole_book *book, struct independent_link link, const int32_t *ring, size_t ring_length,
+static uint32_t buffer_first(const guxhamole_book *book, const int32_t *ring, size_t ring_length,
                              unsigned kind, uint8_t *buffer, size_t room, size_t *length)
 {
-    uint32_t number = independent_store(book, link, ring, ring_length, kind, buffer, room, length);
+    uint32_t number = independent_store(book, ring, ring_length, kind, buffer, room, length);
     return number == 47 && room < independent_image_length(book, 1) ? 23 : number;
 }
 
-static uint32_t link_before_sums(const guxhamole_book *book, struct independent_link link, const int32_t *ring, size_t ring_length,
+static uint32_t link_before_sums(const guxhamole_book *book, const int32_t *ring, size_t ring_length,
                                  unsigned kind, uint8_t *buffer, size_t room, size_t *length)
 {
-    uint32_t number = independent_store(book, link, ring, ring_length, kind, buffer, room, length);
-    return number == 22 && kind == 1 && independent_has_link(link) ? 47 : number;
+    uint32_t number = independent_store(book, ring, ring_length, kind, buffer, room, length);
+    return number == 22 && kind == 1 && book->from != 255 ? 47 : number;
 }
 
-static uint32_t ends_stored(const guxhamole_book *book, struct independent_link link, const int32_t *ring, size_t ring_length,
+static uint32_t ends_stored(const guxhamole_book *book, const int32_t *ring, size_t ring_length,
                             unsigned kind, uint8_t *buffer, size_t room, size_t *length)
 {
-    return independent_store(book, independent_ends(link.to, link.from), ring, ring_length, kind, buffer, room, length);
+    guxhamole_book other = *book;
+    other.from = book->to, other.to = book->from;
+    return independent_store(&other, ring, ring_length, kind, buffer, room, length);
 }
 
-static struct independent_refusal ends_loaded(const uint8_t *image, size_t length, unsigned kinds, int32_t *ring, size_t ring_length,
-                                              guxhamole_book *book, struct independent_link *link)
+static struct independent_refusal ends_loaded(const uint8_t *image, size_t length, int32_t *ring, size_t ring_length,
+                                              guxhamole_book *book)
 {
-    struct independent_refusal refusal = independent_load(image, length, kinds, ring, ring_length, book, link);
-    *link = independent_ends(link->to, link->from);
+    struct independent_refusal refusal = independent_load(image, length, ring, ring_length, book);
+    uint8_t from = book->from;
+    book->from = book->to, book->to = from;
     return refusal;
 }
 
-static uint32_t zeros_kept(const guxhamole_book *book, struct independent_link link, const int32_t *ring, size_t ring_length,
+static uint32_t zeros_kept(const guxhamole_book *book, const int32_t *ring, size_t ring_length,
                            unsigned kind, uint8_t *buffer, size_t room, size_t *length)
 {
-    uint32_t number = independent_store(book, link, ring, ring_length, kind, buffer, room, length);
+    uint32_t number = independent_store(book, ring, ring_length, kind, buffer, room, length);
     if (number == 0 && kind == 2)
         memset(buffer + 152, 0, 4);
     return number;
 }
 
 /* 24 for every image under 156 bytes that isn't of kind 1. */
-static struct independent_refusal short_kind(const uint8_t *image, size_t length, unsigned kinds, int32_t *ring, size_t ring_length,
-                                             guxhamole_book *book, struct independent_link *link)
+static struct independent_refusal short_kind(const uint8_t *image, size_t length, int32_t *ring, size_t ring_length,
+                                              guxhamole_book *book)
 {
-    struct independent_refusal refusal = independent_load(image, length, kinds, ring, ring_length, book, link);
+    struct independent_refusal refusal = independent_load(image, length, ring, ring_length, book);
     if (refusal.number == 25 && length < 156)
         refusal.number = 24;
     return refusal;
 }
 
 /* Loads as if some of bytes 150 to 155 were what they must be. */
-static struct independent_refusal load_mended(const uint8_t *image, size_t length, unsigned kinds, int32_t *ring, size_t ring_length,
-                                              guxhamole_book *book, struct independent_link *link, size_t from, size_t to, int right)
+static struct independent_refusal load_mended(const uint8_t *image, size_t length, int32_t *ring, size_t ring_length,
+                                              guxhamole_book *book, size_t from, size_t to, int right)
 {
     static uint8_t mended[200000];
     if (length < 156 || length > sizeof mended || image[4] != 2)
-        return independent_load(image, length, kinds, ring, ring_length, book, link);
+        return independent_load(image, length, ring, ring_length, book);
     memcpy(mended, image, length);
     memset(mended + from, right, to - from);
-    return independent_load(mended, length, kinds, ring, ring_length, book, link);
+    return independent_load(mended, length, ring, ring_length, book);
 }
 
-static struct independent_refusal any_zeros(const uint8_t *image, size_t length, unsigned kinds, int32_t *ring, size_t ring_length,
-                                            guxhamole_book *book, struct independent_link *link)
+static struct independent_refusal any_zeros(const uint8_t *image, size_t length, int32_t *ring, size_t ring_length,
+                                              guxhamole_book *book)
 {
-    return load_mended(image, length, kinds, ring, ring_length, book, link, 150, 152, 0);
+    return load_mended(image, length, ring, ring_length, book, 150, 152, 0);
 }
 
-static struct independent_refusal any_later(const uint8_t *image, size_t length, unsigned kinds, int32_t *ring, size_t ring_length,
-                                            guxhamole_book *book, struct independent_link *link)
+static struct independent_refusal any_later(const uint8_t *image, size_t length, int32_t *ring, size_t ring_length,
+                                              guxhamole_book *book)
 {
-    return load_mended(image, length, kinds, ring, ring_length, book, link, 152, 156, 255);
+    return load_mended(image, length, ring, ring_length, book, 152, 156, 255);
 }
 
 static uint32_t restart_by_any(const struct independent_ledger *ledger, unsigned kind, size_t room, size_t other_length)
@@ -249,8 +260,14 @@ static size_t no_record(struct independent_shape shape, const struct independent
 static uint32_t kind_unknown(struct independent_shape shape, const uint8_t *records, size_t length, size_t at,
                              struct independent_interval *interval, size_t *after)
 {
-    shape.known = 0;
-    return independent_interval_read(shape, records, length, at, interval, after);
+    static uint8_t relabelled[2 * GUXHAMOLE_INTERVAL(8, 10, 0)];
+    if (length > sizeof relabelled)
+        return independent_interval_read(shape, records, length, at, interval, after);
+    memcpy(relabelled, records, length);
+    for (size_t place = at; place + 6 <= length; place += place == at ? 12 : 20 + 4 * (size_t)shape.services)
+        if (relabelled[place + 4] == 18 && relabelled[place] != 14)
+            relabelled[place + 4] = 19;
+    return independent_interval_read(shape, relabelled, length, at, interval, after);
 }
 
 static uint32_t always_read(struct independent_shape shape, const uint8_t *records, size_t length, size_t at,
@@ -292,11 +309,11 @@ static uint32_t pair_first(struct independent_shape shape, uint32_t seed, struct
     return last;
 }
 
-static struct independent_billed bill_without(const struct independent_bill *bill, struct independent_ledger *ledger, int32_t *work)
+static guxhamole_billed bill_without(const struct independent_bill *bill, int32_t *work)
 {
     struct independent_bill other = *bill;
-    other.link = independent_no_link();
-    return independent_billed_of(&other, ledger, work);
+    other.book.from = other.book.to = 255;
+    return billed_of(&other, work);
 }
 
 static const char *wrong_records(size_t i, struct link_code *code)

@@ -4,7 +4,6 @@
 #include <string.h>
 
 uint64_t seed = 20261115;
-int make_links = LINKS_ON;
 
 /* splitmix64 */
 uint64_t next(void)
@@ -152,6 +151,15 @@ struct independent_link any_ends(unsigned regions, const uint8_t *parents)
     return link;
 }
 
+void forge_ends(guxhamole_book *book)
+{
+    if (book->regions < 1 || book->regions > 8)
+        return;
+    struct independent_link link = any_ends(book->regions, book->parents);
+    book->from = link.from;
+    book->to = link.to;
+}
+
 int32_t any_link_flow(void)
 {
     int64_t flow = within(-1, 1);
@@ -179,11 +187,8 @@ void damage_link(uint8_t *image, size_t length)
     }
 }
 
-/* Without the links no number is drawn: a seed makes the plan that it made before there were any. */
 static void link_plan(struct plan *p)
 {
-    if (!make_links)
-        return;
     p->kind = 1 + (unsigned)below(2);
     if (p->kind == 2 && below(4) != 0)
         p->link = any_link(p->regions, p->parents);

@@ -4,9 +4,6 @@
 
 #include "independent_link.h"
 
-/* Whether random plans and images have additional links, and are of both kinds: LINKS_ON, unless a test sets it. */
-extern int make_links;
-
 struct plan {
     unsigned regions, services, window, halves;
     uint8_t parents[8];
@@ -55,6 +52,9 @@ int64_t threshold_out(void);
    ends that are mostly none of these. */
 struct independent_link any_link(unsigned regions, const uint8_t *parents);
 struct independent_link any_ends(unsigned regions, const uint8_t *parents);
+
+/* Gives a book such ends, unless its regions are none of 1 to 8. */
+void forge_ends(guxhamole_book *book);
 
 /* A link's flow and factor that an entry takes. */
 int32_t any_link_flow(void);

@@ -1,7 +1,8 @@
 /* Measures the stack that each function takes with the largest book (8 regions of 11 markets, W 2,016, H 48, windows full): each
    is called in a thread whose stack was painted before, and the lowest byte that is no longer paint tells. The caller's own frame,
-   with the book that it lends and the answer, is counted in. Entries, and bills of two of them, are measured with links in a chain and
-   in a star, power either way, caps and floors that travel, marked and refused. Exit status 1 where one takes more than the header
+   with the book that it lends and the answer, is counted in. Entries, and bills of two of them, are measured with links in a chain, in a
+   star and in a ring of all eight regions, which the additional link closes, power either way and all round, caps and floors that travel,
+   marked and refused; all else with that ring's book. Exit status 1 where one takes more than the header
    says. It is a measurement of these calls, on this machine, and no proof. */
 #define _POSIX_C_SOURCE 200809L
 
@@ -13,22 +14,25 @@
 #include <stdlib.h>
 #include <string.h>
 
+enum shape { STAR, CHAIN, RING_OF_ALL, SHAPES };
+
 enum {
-    REGIONS = 8, SERVICES = 10, MARKETS = SERVICES + 1, PRICES = REGIONS * MARKETS, WINDOW = 2016, HALVES = 48,
+    REGIONS = 8, LINKS = REGIONS + 1, SERVICES = 10, MARKETS = SERVICES + 1, PRICES = REGIONS * MARKETS, WINDOW = 2016, HALVES = 48,
     RING = PRICES * WINDOW, SCHEDULE = PRICES * 2 * HALVES, STACK = 1 << 20, PAINT = 0xc5,
     ENTRY_RECORD = 40 + 4 * PRICES + REGIONS + 4 * REGIONS + 4 * REGIONS + 4 * SCHEDULE + 4 * PRICES, ENTRY_ANSWER = 18 + 4 * PRICES
 };
 
-static int32_t ring[RING], other[RING], prices[PRICES], flows[REGIONS], schedule[SCHEDULE], table[PRICES];
+static int32_t ring[RING], other[RING], prices[PRICES], flows[LINKS], schedule[SCHEDULE], table[PRICES];
 static int32_t numbers[PRICES + REGIONS + SCHEDULE], month[168 * HALVES];
-static uint32_t factors[REGIONS], room[REGIONS];
+static uint32_t factors[LINKS], room[LINKS];
 static uint8_t marks[REGIONS], image[LONGEST], calls[38 + ENTRY_RECORD + 14 + 6], answers[14 + ENTRY_ANSWER + 34 + 14];
 static size_t image_length, calls_length;
-static uint8_t day[2 * GUXHAMOLE_INTERVAL(REGIONS, SERVICES)];
+static uint8_t day[2 * GUXHAMOLE_INTERVAL(REGIONS, SERVICES, 0)];
+static size_t links, day_length; /* of the book; without the link a day is shorter */
 static uint32_t line_numbers[3], line_energy[3];
 static int32_t line_prices[3];
 static int64_t line_amounts[3];
-static uint8_t kinds[28], records[GUXHAMOLE_INTERVAL(REGIONS, SERVICES)], later[sizeof records], read_marks[REGIONS];
+static uint8_t kinds[28], records[GUXHAMOLE_INTERVAL(REGIONS, SERVICES, 0)], later[sizeof records], read_marks[REGIONS];
 static guxhamole_settings settings;
 static guxhamole_book book;
 static volatile uint64_t told; /* so that no call is left out */
@@ -40,6 +44,7 @@ static void use_limits(void) { told = guxhamole_set_limits(book, 60000, -60000).
 static void use_report(void) { told = guxhamole_report(book, 7, 10).number; }
 static void use_left(void) { told = guxhamole_intervals_left(book, ring, RING, 7, 10, 0).number; }
 static void use_store(void) { told = guxhamole_store(book, ring, RING, image, LONGEST).number; }
+static void use_store_kind_2(void) { told = guxhamole_store_kind_2(book, ring, RING, image, LONGEST).number; }
 static void use_load(void) { told = guxhamole_load(image, image_length, other, RING).number; }
 static void use_check(void) { told = guxhamole_image_check(image, image_length); }
 static void use_schedule(void) { told = guxhamole_schedule(HALVES, 60000, -60000, 1, month, 168 * HALVES, kinds, 28).number; }
@@ -53,34 +58,34 @@ static void use_text(void)
 
 static void use_enter(void)
 {
-    guxhamole_entered entered = guxhamole_enter(book, ring, RING, book.entries, 0, prices, PRICES, marks, REGIONS, flows, REGIONS,
-                                                factors, REGIONS, schedule, SCHEDULE, table, PRICES);
+    guxhamole_entered entered = guxhamole_enter(book, ring, RING, book.entries, 0, prices, PRICES, marks, REGIONS, flows, links,
+                                                factors, links, schedule, SCHEDULE, table, PRICES);
     book = entered.book;
     told = entered.number;
 }
 
 static void use_write(void)
 {
-    told = guxhamole_interval_write(book, book.entries, 0, prices, PRICES, marks, REGIONS, flows, REGIONS, factors, REGIONS,
+    told = guxhamole_interval_write(book, book.entries, 0, prices, PRICES, marks, REGIONS, flows, links, factors, links,
                                     records, sizeof records).number;
 }
 
 static void use_read(void)
 {
-    told = guxhamole_interval_read(book, records, sizeof records, 0, table, PRICES, read_marks, REGIONS, numbers, REGIONS, room,
-                                   REGIONS).number;
+    told = guxhamole_interval_read(book, records, sizeof records, 0, table, PRICES, read_marks, REGIONS, numbers, links, room,
+                                   links).number;
 }
 
 static void use_rewrite(void) { told = guxhamole_interval_rewrite(book, records, sizeof records, 0, later, sizeof later).number; }
 
 static void use_synthetic(void)
 {
-    told = guxhamole_synthetic(book, 2026, 0, 0, table, PRICES, read_marks, REGIONS, numbers, REGIONS, room, REGIONS).number;
+    told = guxhamole_synthetic(book, 2026, 0, 0, table, PRICES, read_marks, REGIONS, numbers, links, room, links).number;
 }
 
 static void use_bill(void)
 {
-    told = guxhamole_bill(book, ring, RING, other, RING, day, sizeof day, schedule, SCHEDULE, 7, line_numbers, 3, line_energy, 3,
+    told = guxhamole_bill(book, ring, RING, other, RING, day, day_length, schedule, SCHEDULE, 7, line_numbers, 3, line_energy, 3,
                           line_prices, 3, line_amounts, 3).number;
 }
 
@@ -155,17 +160,22 @@ static int print(const struct use *use, size_t bound)
 }
 
 /* The largest book, every market administered, from an image of windows full of one price. */
-static void open_book(int chain)
+static void open_book(enum shape shape)
 {
     struct plan plan = plain();
     plan.regions = REGIONS, plan.services = SERVICES, plan.window = WINDOW, plan.halves = HALVES, plan.entries = 5000;
     plan.threshold = 10000;
     for (int region = 0; region < REGIONS; region++) {
         plan.counts[region] = WINDOW;
-        plan.parents[region] = (uint8_t)(region == 0 ? 255 : chain ? region - 1 : 0);
+        plan.parents[region] = (uint8_t)(region == 0 ? 255 : shape == STAR ? 0 : region - 1);
         for (int market = 0; market < MARKETS; market++)
             plan.periods[11 * region + market] = 1;
     }
+    if (shape == RING_OF_ALL) {
+        plan.kind = 2;
+        plan.link.from = 0, plan.link.to = REGIONS - 1;
+    }
+    links = shape == RING_OF_ALL ? LINKS : REGIONS;
     image_length = lay_out(&plan, 9000000, image);
     book = guxhamole_load(image, image_length, ring, RING).book;
 }
@@ -174,16 +184,16 @@ static void fill_entry(int32_t energy, int32_t flow)
 {
     for (int place = 0; place < PRICES; place++)
         prices[place] = place % MARKETS == 0 ? energy : 100000;
-    for (int region = 0; region < REGIONS; region++) {
-        flows[region] = flow;
-        factors[region] = 10500;
+    for (int place = 0; place < LINKS; place++) {
+        flows[place] = flow;
+        factors[place] = 10500;
     }
 }
 
-static void measure_entries(int chain)
+static void measure_entries(enum shape shape)
 {
     static const int32_t energies[] = {100000, -100000}, ways[] = {1, -1};
-    open_book(chain);
+    open_book(shape);
     for (int i = 0; i < 4; i++) {
         fill_entry(energies[i % 2], ways[i / 2]);
         expect(0, &enter);
@@ -198,9 +208,10 @@ static void measure_entries(int chain)
 /* The entry twice, as records of a day. */
 static void fill_day(void)
 {
-    const size_t size = sizeof day / 2;
+    const size_t size = GUXHAMOLE_INTERVAL(REGIONS, SERVICES, book.from);
+    day_length = 2 * size;
     for (uint32_t i = 0; i < 2; i++)
-        guxhamole_interval_write(book, book.entries + i, 0, prices, PRICES, marks, REGIONS, flows, REGIONS, factors, REGIONS,
+        guxhamole_interval_write(book, book.entries + i, 0, prices, PRICES, marks, REGIONS, flows, links, factors, links,
                                  day + i * size, size);
 }
 
@@ -210,10 +221,10 @@ static void expect_bill(uint64_t number)
     expect(number, &bill);
 }
 
-static void measure_bills(int chain)
+static void measure_bills(enum shape shape)
 {
     static const int32_t energies[] = {100000, -100000}, ways[] = {1, -1};
-    open_book(chain);
+    open_book(shape);
     for (int i = 0; i < 4; i++) {
         fill_entry(energies[i % 2], ways[i / 2]);
         expect_bill(0);
@@ -233,19 +244,23 @@ static void measure_bills(int chain)
 /* What was written is read and rewritten; so is it in downward order, but not read; then the last region is given twice. */
 static void measure_reading(void)
 {
-    const size_t region = 16 + 4 * MARKETS;
+    const size_t region = 16 + 4 * MARKETS, last = 12 + (REGIONS - 1) * region;
     expect(0, &read_records);
     expect(0, &rewrite);
     for (size_t i = 0; i < REGIONS; i++)
         memcpy(records + 12 + i * region, later + 12 + (REGIONS - 1 - i) * region, region);
     expect(GUXHAMOLE_RECORD_ORDER, &read_records);
     expect(0, &rewrite);
-    records[sizeof records - region + 6] = REGIONS - 1;
+    records[last + 6] = REGIONS - 1;
     expect(GUXHAMOLE_RECORD_REGION, &rewrite);
     memcpy(records, later, sizeof records);
-    records[sizeof records - region + 6] = 0;
+    records[last + 6] = 0;
     expect(GUXHAMOLE_RECORD_ORDER, &read_records);
     expect(GUXHAMOLE_RECORD_REGION, &rewrite);
+    memcpy(records, later, sizeof records);
+    records[sizeof records - 10] = 17;
+    expect(GUXHAMOLE_RECORD_BROKEN, &read_records);
+    expect(GUXHAMOLE_RECORD_BROKEN, &rewrite);
 }
 
 static void put(int width, uint64_t number)
@@ -277,20 +292,24 @@ static void fill_calls(void)
 int main(void)
 {
     static struct use uses[] = {{"threshold", use_threshold, 0}, {"limits", use_limits, 0}, {"report", use_report, 0},
-                                {"intervals left", use_left, 0}, {"store", use_store, 0}, {"image check", use_check, 0},
+                                {"intervals left", use_left, 0}, {"store by kind 2", use_store_kind_2, 0}, {"image check", use_check, 0},
                                 {"schedule", use_schedule, 0}, {"interval write", use_write, 0}, {"synthetic", use_synthetic, 0},
                                 {"open", use_open, 0}};
     static struct use others[] = {{"amount text", use_text, 0}, {"index", use_index, 0}, {"abi", use_abi, 0}};
-    static struct use replay = {"replay", use_replay, 0};
-    guxhamole_settings own = {REGIONS, SERVICES, WINDOW, HALVES, 0, {255, 0, 1, 2, 3, 4, 5, 6}, 10000, 60000, -60000};
+    static struct use replay = {"replay", use_replay, 0}, store = {"store", use_store, 0};
+    guxhamole_settings own = {REGIONS, SERVICES, WINDOW, HALVES, 0, {255, 0, 1, 2, 3, 4, 5, 6}, 0, 7, 10000, 60000, -60000};
     int within = 1;
     settings = own;
     for (int day = 0; day < 28; day++)
         kinds[day] = day % 7 > 4;
-    measure_entries(0);
-    measure_entries(1);
-    measure_bills(0);
-    measure_bills(1);
+    for (int shape = 0; shape < SHAPES; shape++)
+        measure_entries((enum shape)shape);
+    open_book(CHAIN);
+    expect(0, &store);
+    for (int shape = 0; shape < SHAPES; shape++)
+        measure_bills((enum shape)shape);
+    expect(GUXHAMOLE_IMAGE_FIRST, &store);
+    within &= print(&store, GUXHAMOLE_STACK);
     expect(0, &load);
     within &= print(&enter, GUXHAMOLE_STACK);
     within &= print(&bill, GUXHAMOLE_STACK_BILL);

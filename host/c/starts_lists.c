@@ -3,8 +3,8 @@
 #include "starts_lists.h"
 
 #include "guarded.h"
-#include "independent.h"
-#include "independent_ledger.h"
+#include "independent_entry.h"
+#include "independent_image.h"
 #include "make.h"
 #include "test_books.h"
 
@@ -13,25 +13,28 @@
 #include <string.h>
 
 enum {
-    WINDOW = 4, HALVES = 2, ENTRIES = 60, RING_MOST = GUXHAMOLE_RING(8, 10, WINDOW), SCHEDULE_MOST = GUXHAMOLE_SCHEDULE(8, 10, HALVES)
+    WINDOW = 4, HALVES = 2, ENTRIES = 60, RING_MOST = GUXHAMOLE_RING(8, 10, WINDOW), SCHEDULE_MOST = GUXHAMOLE_SCHEDULE(8, 10, HALVES),
+    IMAGE_MOST = GUXHAMOLE_IMAGE_MAX(8, 10, WINDOW)
 };
 
 /* What is counted, and how often it must come up in a whole run. */
 enum kind {
-    OPENED, BY_20, BY_20_OF_44, BY_11, BY_11_OF_44, BY_18, BY_18_OF_19, BY_44, BY_44_OF_19, BY_19,
-    FROM_OPENING, FROM_IMAGE, FROM_OTHER, SET, NOT_SET_18, NOT_SET_44, ENTERED, BESIDE, TOLD_APART, CHANGED, RELEASED, RESTARTS, KINDS
+    OPENED, OPENED_LINKED, BY_20, BY_20_OF_ENDS, BY_20_OF_44, BY_11, BY_11_OF_44, BY_18, BY_18_OF_19, BY_44, BY_44_OF_19, BY_19,
+    FROM_OPENING, FROM_IMAGE_1, FROM_IMAGE_2, FROM_LINKED, FROM_OTHER, SET, NOT_SET_18, NOT_SET_44, ENTERED, LINKED, BESIDE, TOLD_APART,
+    CHANGED, RELEASED, RESTARTS_1, RESTARTS_2, RESTARTS_47, RESTARTS_23, RESTARTS_11, KINDS
 };
 
 static const struct {
     const char *name;
     long least;
 } kinds[KINDS] = {
-    {"openings accepted", 2000}, {"refused by 20", 2000}, {"by 20 before 44", 500}, {"by 11", 2000}, {"by 11 before 44", 500},
+    {"openings accepted", 2000}, {"with a link", 500}, {"refused by 20", 2000}, {"by 20 of the ends alone", 2000}, {"by 20 before 44", 500}, {"by 11", 2000}, {"by 11 before 44", 500},
     {"by 18", 1000}, {"by 18 before 19", 250}, {"by 44", 1500}, {"by 44 before 19", 400}, {"by 19", 700},
-    {"lists from an opening", 150}, {"from an image", 400}, {"from one whose threshold is no multiple", 250},
+    {"lists from an opening", 150}, {"from an image of kind 1", 100}, {"of kind 2", 300}, {"lists with a link", 300}, {"from an image whose threshold is no multiple", 250},
     {"thresholds set", 3000}, {"refused by 18", 600}, {"by 44", 1200},
-    {"entries", 60000}, {"at a threshold that is no multiple", 4000}, {"markets on another side of a multiple next to it", 1200},
-    {"prices changed", 100000}, {"periods that ended", 10000}, {"restarts", 4000}};
+    {"entries", 60000}, {"with a link", 18000}, {"at a threshold that is no multiple", 4000}, {"markets on another side of a multiple next to it", 1200},
+    {"prices changed", 100000}, {"periods that ended", 10000}, {"restarts by kind 1", 800}, {"by kind 2", 1200},
+    {"refused by 47", 1000}, {"by 23", 500}, {"by 11", 300}};
 
 static long seen[KINDS];
 
@@ -39,6 +42,12 @@ void starts_differ(const char *what, uint64_t from)
 {
     printf("starts test: %s, from seed %llu\n", what, (unsigned long long)from);
     exit(1);
+}
+
+static void set_link(guxhamole_settings *settings, struct independent_link link)
+{
+    settings->from = link.from;
+    settings->to = link.to;
 }
 
 static guxhamole_settings any_settings(void)
@@ -54,6 +63,7 @@ static guxhamole_settings any_settings(void)
     for (int region = 1; region < settings.regions; region++)
         if (below(2))
             settings.parents[region] = (uint8_t)below((uint64_t)region);
+    set_link(&settings, below(4) == 0 ? independent_no_link() : any_link(settings.regions, settings.parents));
     settings.threshold = 10000 * within(1, 6 * settings.window);
     settings.cap = (int32_t)within(1, 60000);
     settings.floor = -(int32_t)within(1, 60000);
@@ -70,6 +80,8 @@ static size_t spoil(guxhamole_settings *settings)
         settings->threshold = below(3) == 0 ? threshold_out() : threshold_beside(settings->threshold);
     else if (below(10) == 0)
         settings->threshold = below(2) ? 100000000000 : 99999990000;
+    if (below(4) == 0)
+        set_link(settings, any_ends(settings->regions, settings->parents));
     switch (below(9)) {
     case 0: settings->cap = below(2) ? 0 : 10000001; break;
     case 1: case 2: settings->floor = below(2) ? 0 : -10000001; break;
@@ -82,12 +94,17 @@ static size_t spoil(guxhamole_settings *settings)
     return places;
 }
 
-static void count_opening(uint32_t number, const guxhamole_settings *settings)
+static void count_opening(uint32_t number, const guxhamole_settings *settings, size_t places)
 {
     int hundreds = independent_threshold(settings->threshold) == 44;
     int limits = independent_limits(settings->cap, settings->floor) != 0;
+    int linked = independent_has_link(independent_settings_link(settings));
+    guxhamole_settings without = *settings;
+    set_link(&without, independent_no_link());
     seen[OPENED] += number == 0;
+    seen[OPENED_LINKED] += number == 0 && linked;
     seen[BY_20] += number == 20;
+    seen[BY_20_OF_ENDS] += number == 20 && independent_opening(&without, places) != 20;
     seen[BY_20_OF_44] += number == 20 && hundreds;
     seen[BY_11] += number == 11;
     seen[BY_11_OF_44] += number == 11 && hundreds;
@@ -98,13 +115,18 @@ static void count_opening(uint32_t number, const guxhamole_settings *settings)
     seen[BY_19] += number == 19;
 }
 
-/* Refused, it leaves the ring and answers the closed book; accepted, the ring is zeros and the book has the threshold. */
+static int has_settings(const guxhamole_book *book, const guxhamole_settings *settings)
+{
+    return book->threshold == settings->threshold && book->from == settings->from && book->to == settings->to;
+}
+
+/* Refused, it leaves the ring and answers the closed book; accepted, the ring is zeros and the book has threshold and link. */
 void any_opening(void)
 {
     uint64_t from = seed;
     guxhamole_settings settings = any_settings();
     size_t places = spoil(&settings);
-    uint32_t want = independent_opening(&settings, independent_settings_link(&settings), places);
+    uint32_t want = independent_opening(&settings, places);
     int32_t *ring = (int32_t *)guarded(4 * places);
     for (size_t i = 0; i < places; i++)
         ring[i] = 7;
@@ -114,9 +136,9 @@ void any_opening(void)
         stayed &= ring[i] == (want == 0 ? 0 : 7);
     if (kept.number != want || kept.place != 0)
         starts_differ("an opening was answered otherwise", from);
-    if (!stayed || !guarded_whole() || (want == 0 ? kept.book.threshold != settings.threshold : !is_closed(&kept.book)))
+    if (!stayed || !guarded_whole() || (want == 0 ? !has_settings(&kept.book, &settings) : !is_closed(&kept.book)))
         starts_differ("an opening's ring or book", from);
-    count_opening(want, &settings);
+    count_opening(want, &settings, places);
     guarded_free();
 }
 
@@ -132,8 +154,9 @@ struct started {
 static void begin(struct started *started)
 {
     guxhamole_settings settings = any_settings();
-    uint8_t image[BLANK_IMAGE];
+    uint8_t image[BLANK_LINKED];
     guxhamole_kept kept;
+    size_t length = 0;
     int loaded = below(3) != 0;
     started->places = GUXHAMOLE_RING(settings.regions, settings.services, settings.window);
     started->ring = (int32_t *)guarded(4 * started->places);
@@ -142,18 +165,20 @@ static void begin(struct started *started)
     if (loaded) {
         if (below(4) != 0)
             settings.threshold = threshold_beside(settings.threshold);
-        blank_image(&settings, image);
+        length = any_blank(&settings, image);
         independent_ledger_load(&started->ledger, image);
-        kept = guxhamole_load(image, sizeof image, started->ring, started->places);
+        kept = guxhamole_load(image, length, started->ring, started->places);
     } else {
-        independent_ledger_open(&started->ledger, &settings, independent_settings_link(&settings));
+        independent_ledger_open(&started->ledger, &settings);
         kept = guxhamole_open(settings, started->ring, started->places);
     }
-    if (kept.number != 0)
-        starts_differ("a start was refused", started->from);
+    if (kept.number != 0 || !has_settings(&kept.book, &settings))
+        starts_differ("a start was refused, or has another threshold or link", started->from);
     started->book = kept.book;
     seen[FROM_OPENING] += !loaded;
-    seen[FROM_IMAGE] += loaded;
+    seen[FROM_IMAGE_1] += length == BLANK_IMAGE;
+    seen[FROM_IMAGE_2] += length == BLANK_LINKED;
+    seen[FROM_LINKED] += settings.from != GUXHAMOLE_NONE;
     seen[FROM_OTHER] += settings.threshold % 10000 != 0;
 }
 
@@ -204,21 +229,45 @@ static void report(const struct started *started, uint32_t region, uint32_t mark
         starts_differ("a report was answered otherwise", started->from);
 }
 
-/* The image has the threshold, a multiple or not, and the book goes on with it in the other ring. */
+/* Stores by either kind; what is stored is the image of the book that the ledger is. */
+static guxhamole_stored store(const struct started *started, unsigned kind, uint8_t *image, size_t room)
+{
+    static uint8_t wanted[IMAGE_MOST];
+    static int32_t ring[RING_MOST];
+    guxhamole_book book;
+    size_t length;
+    guxhamole_stored stored = kind == 1 ? guxhamole_store(started->book, started->ring, started->places, image, room)
+                                        : guxhamole_store_kind_2(started->book, started->ring, started->places, image, room);
+    independent_book_of(&started->ledger, &book, ring);
+    uint32_t number = independent_store(&book, ring, started->places, kind, wanted, room, &length);
+    if (stored.number != number || stored.length != length || memcmp(image, wanted, length) != 0)
+        starts_differ("a store's answer or image", started->from);
+    return stored;
+}
+
+/* By kind 2, or by kind 1 where 47 allows it: the book goes on with threshold and link in the other ring, unless room or ring is wrong. */
 static void restart(struct started *started)
 {
-    static uint8_t image[148 + 4 * RING_MOST];
+    static uint8_t image[IMAGE_MOST];
+    unsigned kind = 1 + (unsigned)below(2);
     int32_t *ring = started->ring;
-    guxhamole_stored stored = guxhamole_store(started->book, ring, started->places, image, 148 + 4 * started->places);
-    if (stored.number != 0 || (int64_t)independent_number(image, 28, 8) != started->ledger.settings.threshold)
-        starts_differ("a store, or its image's threshold", started->from);
-    guxhamole_kept kept = guxhamole_load(image, stored.length, started->other, started->places);
-    if (kept.number != 0)
-        starts_differ("a stored image was refused", started->from);
+    size_t room = below(3) ? GUXHAMOLE_IMAGE_MAX(started->book.regions, started->book.services, started->book.window) : 148 + below(40);
+    size_t lent = started->places - (below(6) == 0 ? 1 : 0);
+    uint32_t want = independent_ledger_restart(&started->ledger, kind, room, lent);
+    guxhamole_kept kept = {started->book, 0, 0};
+    guxhamole_stored stored = store(started, kind, image, room);
+    kept.number = stored.number;
+    if (stored.number == 0)
+        kept = guxhamole_load(image, (size_t)stored.length, started->other, lent);
+    if (kept.number != want)
+        starts_differ("a restart was answered otherwise", started->from);
+    seen[RESTARTS_47] += want == 47, seen[RESTARTS_23] += want == 23, seen[RESTARTS_11] += want == 11;
+    if (want != 0)
+        return;
     started->book = kept.book;
     started->ring = started->other;
     started->other = ring;
-    seen[RESTARTS]++;
+    seen[kind == 1 ? RESTARTS_1 : RESTARTS_2]++;
 }
 
 /* Prices by ten thousands and a cent about, so that sums come near the thresholds. */
@@ -233,21 +282,26 @@ static int32_t any_price(uint32_t market)
 
 /* An entry's numbers. */
 struct drawn {
-    int32_t prices[88], schedule[SCHEDULE_MOST];
-    uint8_t marks[8], kind;
+    struct independent_interval interval;
+    int32_t schedule[SCHEDULE_MOST];
 };
 
 static const struct drawn *any_entry(const guxhamole_book *book)
 {
     static struct drawn drawn;
     uint32_t markets = book->services + 1u;
-    drawn.kind = (uint8_t)below(2);
+    drawn.interval.entry = book->entries;
+    drawn.interval.day_kind = (uint32_t)below(2);
     for (uint32_t place = 0; place < book->regions * markets; place++)
-        drawn.prices[place] = any_price(place % markets);
+        drawn.interval.prices[place] = any_price(place % markets);
     for (size_t place = 0; place < GUXHAMOLE_SCHEDULE(book->regions, book->services, book->halves); place++)
         drawn.schedule[place] = (int32_t)within(-100000, 100000);
     for (int region = 0; region < book->regions; region++)
-        drawn.marks[region] = below(7) == 0;
+        drawn.interval.marks[region] = below(7) == 0;
+    for (size_t place = 0; place < GUXHAMOLE_LINKS(book->regions, book->from); place++) {
+        drawn.interval.flows[place] = any_link_flow();
+        drawn.interval.factors[place] = any_link_factor();
+    }
     return &drawn;
 }
 
@@ -266,22 +320,23 @@ static void count_markets(const guxhamole_book *before, const guxhamole_book *af
 
 static void enter(struct started *started)
 {
-    static const int32_t flows[8] = {0};
-    static const uint32_t factors[8] = {10000, 10000, 10000, 10000, 10000, 10000, 10000, 10000};
     int32_t want[88];
     const guxhamole_book before = started->book;
     const struct drawn *drawn = any_entry(&before);
-    size_t regions = before.regions, prices = GUXHAMOLE_PRICES(before.regions, before.services);
-    uint32_t changed = independent_ledger_publish(&started->ledger, drawn->kind, drawn->prices, drawn->marks, drawn->schedule, want);
-    independent_ledger_enter(&started->ledger, drawn->prices, drawn->marks);
+    const struct independent_interval *interval = &drawn->interval;
+    struct independent_lengths lent = independent_entry_lengths(&started->ledger);
+    size_t links = GUXHAMOLE_LINKS(before.regions, before.from);
+    uint32_t changed = independent_entry_publish(&started->ledger, interval, drawn->schedule, want);
+    independent_ledger_enter(&started->ledger, interval->prices, interval->marks);
     guxhamole_entered entered =
-        guxhamole_enter(before, started->ring, started->places, before.entries, drawn->kind, drawn->prices, prices, drawn->marks,
-                        regions, flows, regions, factors, regions, drawn->schedule,
-                        GUXHAMOLE_SCHEDULE(before.regions, before.services, before.halves), started->table, prices);
-    if (entered.number != 0 || entered.count != changed || memcmp(started->table, want, 4 * prices) != 0 || !guarded_whole())
+        guxhamole_enter(before, started->ring, started->places, before.entries, (uint8_t)interval->day_kind, interval->prices, lent.prices,
+                        interval->marks, lent.marks, interval->flows, links, interval->factors, links, drawn->schedule, lent.schedule,
+                        started->table, lent.table);
+    if (entered.number != 0 || entered.count != changed || memcmp(started->table, want, 4 * lent.table) != 0 || !guarded_whole())
         starts_differ("an entry was answered otherwise", started->from);
     started->book = entered.book;
     seen[CHANGED] += changed;
+    seen[LINKED] += before.from != GUXHAMOLE_NONE;
     count_markets(&before, &entered.book);
 }
 

@@ -2,6 +2,7 @@
 #include "synthetic_draws.h"
 
 #include "guarded.h"
+#include "independent_book.h"
 #include "independent_synthetic.h"
 #include "test_books.h"
 
@@ -11,18 +12,18 @@
 
 /* What is counted, and how often it must come up in a whole run: the bounds of each rule, and the refusals. */
 enum kind {
-    DRAWN, SPIKE, LEAST_ENERGY, MOST_ENERGY, LEAST_SERVICE, MOST_SERVICE, LEAST_FLOW, NO_FLOW, MOST_FLOW, LEAST_FACTOR, MOST_FACTOR,
-    ENTERED, FULL, BY_10, BY_10_OF_11, BY_11, KINDS
+    DRAWN, LINKED, SPIKE, LEAST_ENERGY, MOST_ENERGY, LEAST_SERVICE, MOST_SERVICE, LEAST_FLOW, NO_FLOW, MOST_FLOW, LEAST_FACTOR, MOST_FACTOR,
+    ENTERED, FULL, BY_10, BY_10_OF_ENDS, BY_10_OF_11, BY_11, KINDS
 };
 
 static const struct {
     const char *name;
     long least;
 } kinds[KINDS] = {
-    {"drawn", 50000}, {"energy of 1,500,000", 900}, {"of -2,000", 500}, {"of 17,999", 500}, {"services of 0", 5000},
+    {"drawn", 50000}, {"with a link", 15000}, {"energy of 1,500,000", 900}, {"of -2,000", 500}, {"of 17,999", 500}, {"services of 0", 5000},
     {"of 2,999", 4000}, {"flows of -1,000", 600}, {"of 0", 300}, {"of 1,000", 600}, {"factors of 10,000", 1000},
     {"of 11,999", 800}, {"intervals entered", 15000}, {"refused as the book was full", 100},
-    {"draws refused by 10", 9000}, {"by 10 before 11", 7000}, {"by 11", 9000}};
+    {"draws refused by 10", 9000}, {"by 10 of the ends alone", 800}, {"by 10 before 11", 7000}, {"by 11", 9000}};
 
 static long seen[KINDS];
 
@@ -38,6 +39,7 @@ static void count_interval(const guxhamole_book *book, const struct independent_
 {
     size_t markets = book->services + (size_t)1;
     seen[DRAWN]++;
+    seen[LINKED] += book->from != GUXHAMOLE_NONE;
     for (size_t place = 0; place < book->regions * markets; place++) {
         int energy = place % markets == 0;
         int32_t price = interval->prices[place];
@@ -47,7 +49,7 @@ static void count_interval(const guxhamole_book *book, const struct independent_
         seen[LEAST_SERVICE] += !energy && price == 0;
         seen[MOST_SERVICE] += !energy && price == 2999;
     }
-    for (size_t region = 0; region < book->regions; region++) {
+    for (size_t region = 0; region < GUXHAMOLE_LINKS(book->regions, book->from); region++) {
         seen[LEAST_FLOW] += interval->flows[region] == -1000;
         seen[NO_FLOW] += interval->flows[region] == 0;
         seen[MOST_FLOW] += interval->flows[region] == 1000;
@@ -63,6 +65,7 @@ static void count_draw(const struct draw *draw, uint32_t number, const struct in
     if (number == 0)
         count_interval(&book, interval);
     seen[BY_10] += number == GUXHAMOLE_BOOK;
+    seen[BY_10_OF_ENDS] += number == GUXHAMOLE_BOOK && independent_only_ends_bad(&book);
     seen[BY_10_OF_11] += number == GUXHAMOLE_BOOK && memcmp(&draw->lent, &right, sizeof right) != 0;
     seen[BY_11] += number == GUXHAMOLE_LENGTH;
 }
@@ -99,10 +102,10 @@ void enter_drawn(const struct draw *draw, const struct independent_interval *int
     static const int32_t schedule[GUXHAMOLE_SCHEDULE(8, 10, 48)] = {0};
     static int32_t ring[GUXHAMOLE_RING(8, 10, 2016)], table[88];
     const guxhamole_book *book = &draw->book;
-    size_t regions = book->regions, prices = GUXHAMOLE_PRICES(book->regions, book->services);
+    size_t regions = book->regions, links = GUXHAMOLE_LINKS(book->regions, book->from), prices = GUXHAMOLE_PRICES(book->regions, book->services);
     guxhamole_entered entered =
         guxhamole_enter(*book, ring, prices * book->window, book->entries, 0, interval->prices, prices, interval->marks, regions,
-                        interval->flows, regions, interval->factors, regions, schedule, prices * 2 * book->halves, table, prices);
+                        interval->flows, links, interval->factors, links, schedule, prices * 2 * book->halves, table, prices);
     if (entered.number != (book->entries == 10000000 ? GUXHAMOLE_FULL : GUXHAMOLE_ACCEPTED))
         synthetic_differs("an entry refused it", draw);
     seen[ENTERED] += entered.number == 0;

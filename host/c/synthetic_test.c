@@ -24,15 +24,20 @@ static int in_part(void)
     return below((uint64_t)part) == 0;
 }
 
-/* A new book of this size, each region linked to the one before, so that an entry looks at every factor but the first. */
-static struct draw of_size(unsigned regions, unsigned services)
+/* A new book of this size, each region linked to the one before, so that an entry looks at every factor but the first; or, of two regions
+   or more, with the additional link from the last to the first as well, which of two is the only one. */
+static struct draw of_size(unsigned regions, unsigned services, int linked)
 {
     static int32_t ring[88];
     struct draw draw;
-    guxhamole_settings settings = {(uint8_t)regions, (uint8_t)services, 1, 1, 0, {255, 255, 255, 255, 255, 255, 255, 255}, 10000, 60000,
-                                   -60000};
+    guxhamole_settings settings = {(uint8_t)regions, (uint8_t)services, 1, 1, 0, {255, 255, 255, 255, 255, 255, 255, 255}, 255, 255,
+                                   10000, 60000, -60000};
     for (unsigned region = 1; region < regions; region++)
         settings.parents[region] = (uint8_t)(region - 1);
+    if (linked && regions == 2)
+        settings.parents[1] = 255;
+    if (linked && regions > 1)
+        settings.from = (uint8_t)(regions - 1), settings.to = 0;
     memset(&draw, 0, sizeof draw);
     guxhamole_kept kept = guxhamole_open(settings, ring, GUXHAMOLE_RING(regions, services, 1));
     draw.book = kept.book;
@@ -45,24 +50,26 @@ static struct draw of_size(unsigned regions, unsigned services)
 /* The worked cases; of the largest book the first prices. */
 static const struct worked {
     unsigned regions, services;
+    int linked;
     uint32_t seed, entry;
     uint8_t day_kind;
     int32_t prices[4], flows[5];
     uint32_t factors[5], last;
 } worked[] = {
-    {1, 0, 0, 0, 0, {13470}, {-753}, {11708}, 3519870697},
-    {1, 0, 3519870697, 0, 0, {1769}, {158}, {10750}, 2670642822},
-    {2, 0, 0, 0, 0, {13470, 16256}, {682, 158}, {11769, 10750}, 2670642822},
-    {2, 1, 0, 9, 250, {13470, 256, 11708, 1769}, {158, -485}, {10750, 11945}, 2748932008},
-    {1, 0, 634785765, 0, 0, {1500000}, {463}, {10256}, 1196435762}, /* s becomes 0 */
-    {1, 0, 1479915296, 0, 0, {1500000}, {21}, {11127}, 1515703433}, /* d is 63 */
-    {1, 0, 1461063653, 0, 0, {-1936}, {46}, {11072}, 1905273138},   /* d is 64 */
-    {5, 10, 2026, 0, 0, {-608, 2909, 2522, 1451}, {10, 128, -218, 984, 590}, {10066, 11321, 10679, 11080, 11468}, 489427073}};
+    {1, 0, 0, 0, 0, 0, {13470}, {-753}, {11708}, 3519870697},
+    {1, 0, 0, 3519870697, 0, 0, {1769}, {158}, {10750}, 2670642822},
+    {2, 0, 0, 0, 0, 0, {13470, 16256}, {682, 158}, {11769, 10750}, 2670642822},
+    {2, 1, 0, 0, 9, 250, {13470, 256, 11708, 1769}, {158, -485}, {10750, 11945}, 2748932008},
+    {1, 0, 0, 634785765, 0, 0, {1500000}, {463}, {10256}, 1196435762}, /* s becomes 0 */
+    {1, 0, 0, 1479915296, 0, 0, {1500000}, {21}, {11127}, 1515703433}, /* d is 63 */
+    {1, 0, 0, 1461063653, 0, 0, {-1936}, {46}, {11072}, 1905273138},   /* d is 64 */
+    {5, 10, 0, 2026, 0, 0, {-608, 2909, 2522, 1451}, {10, 128, -218, 984, 590}, {10066, 11321, 10679, 11080, 11468}, 489427073},
+    {2, 0, 1, 0, 0, 0, {13470, 16256}, {682, 158, -485}, {11769, 10750, 11945}, 2748932008}};
 
 static void worked_case(const struct worked *one)
 {
     struct independent_interval interval;
-    struct draw draw = of_size(one->regions, one->services);
+    struct draw draw = of_size(one->regions, one->services, one->linked);
     size_t prices = draw.lent.prices < 4 ? draw.lent.prices : 4;
     draw.seed = one->seed;
     draw.entry = one->entry;
@@ -70,8 +77,8 @@ static void worked_case(const struct worked *one)
     guxhamole_drawn drawn = draw_alike(&draw, &interval);
     if (drawn.number != 0 || drawn.seed != one->last || drawn.entry != one->entry || drawn.day_kind != one->day_kind ||
         memcmp(interval.prices, one->prices, prices * sizeof *one->prices) != 0 ||
-        memcmp(interval.flows, one->flows, one->regions * sizeof *one->flows) != 0 ||
-        memcmp(interval.factors, one->factors, one->regions * sizeof *one->factors) != 0)
+        memcmp(interval.flows, one->flows, draw.lent.flows * sizeof *one->flows) != 0 ||
+        memcmp(interval.factors, one->factors, draw.lent.factors * sizeof *one->factors) != 0)
         synthetic_differs("another interval than was worked out", &draw);
     enter_drawn(&draw, &interval);
     cases++;
@@ -95,7 +102,7 @@ static size_t *length_of(struct lengths *lent, int slice)
 static void refused_cases(void)
 {
     static const struct lengths lengths[] = {{4, 2, 2, 2}, {4, 2, 2, 3}, {9, 9, 9, 9}, {0, 0, 0, 0}};
-    struct draw draw = of_size(2, 1);
+    struct draw draw = of_size(2, 1, 0);
     draw.seed = 2026, draw.entry = 9, draw.day_kind = 250;
     draw.lent.factors++;
     expect_refusal("factors one longer", &draw, GUXHAMOLE_LENGTH);
@@ -196,12 +203,13 @@ static void wrong_lengths(const struct draw *given)
 static void every_size(void)
 {
     for (unsigned regions = 1; regions <= 8; regions++)
-        for (unsigned services = 0; services <= 10; services++) {
-            struct draw draw = of_size(regions, services);
-            end_seeds(&draw);
-            bound_seeds(&draw);
-            wrong_lengths(&draw);
-        }
+        for (unsigned services = 0; services <= 10; services++)
+            for (int linked = 0; linked < 2; linked++) {
+                struct draw draw = of_size(regions, services, linked);
+                end_seeds(&draw);
+                bound_seeds(&draw);
+                wrong_lengths(&draw);
+            }
 }
 
 /* Books of any history, which may be full, damaged ones and wrong lengths among them. */

@@ -37,7 +37,7 @@ static void open_days(const struct days *days)
     draw.book = kept.book;
     draw.seed = days->seed;
     draw.lent = right_lengths(&kept.book);
-    independent_ledger_open(&ledger, &settings, independent_settings_link(&settings));
+    independent_ledger_open(&ledger, &settings);
     if (kept.number != 0)
         synthetic_differs("an opening was refused", &draw);
 }

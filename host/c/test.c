@@ -66,11 +66,9 @@ static void damage(size_t length)
         image[4 + below(length - 4)] = (uint8_t)(below(3) ? below(4) : next());
     check("damaged", image, length);
     memcpy(image, whole, length);
-    if (make_links) {
-        damage_link(image, length);
-        check("damaged at its link, or of another kind", image, length);
-        memcpy(image, whole, length);
-    }
+    damage_link(image, length);
+    check("damaged at its link, or of another kind", image, length);
+    memcpy(image, whole, length);
 }
 
 /* Another count for a region, its own or a higher one, within the window or just past it. */
@@ -132,8 +130,10 @@ static void random_bytes(void)
     check("random", image, length);
     put_number(image, 0, 4, length);
     check("random, length set", image, length);
-    put_number(image, 4, 2, 1);
-    check("random, length and kind set", image, length);
+    for (unsigned kind = 1; kind <= 2; kind++) {
+        put_number(image, 4, 2, kind);
+        check("random, length and kind set", image, length);
+    }
 }
 
 static void images(void)
@@ -146,6 +146,11 @@ static void images(void)
     p.services = 1, p.regions = 2, p.window = 3, p.entries = 5, p.counts[0] = 2, p.counts[1] = 3;
     length = lay_out(&p, 7, image);
     check("two regions", image, length);
+    cut(length);
+    damage_head(length);
+    p.kind = 2, p.link = independent_ends(1, 0);
+    length = lay_out(&p, 7, image);
+    check("two regions with a link", image, length);
     cut(length);
     damage_head(length);
     p.halves = 48;

@@ -21,17 +21,28 @@ void blank_image(const guxhamole_settings *settings, uint8_t *image)
     lay_out(&plan, 0, image);
 }
 
-void blank_linked(const guxhamole_settings *settings, struct independent_link link, uint8_t *image)
+void blank_linked(const guxhamole_settings *settings, uint8_t *image)
 {
     struct plan plan = blank_plan(settings);
-    plan.kind = 2, plan.link = link;
+    plan.kind = 2, plan.link = independent_settings_link(settings);
     lay_out(&plan, 0, image);
+}
+
+size_t any_blank(const guxhamole_settings *settings, uint8_t *image)
+{
+    if (below(2) && !independent_has_link(independent_settings_link(settings))) {
+        blank_image(settings, image);
+        return BLANK_IMAGE;
+    }
+    blank_linked(settings, image);
+    return BLANK_LINKED;
 }
 
 int same_book(const guxhamole_book *one, const guxhamole_book *other)
 {
     return one->regions == other->regions && one->services == other->services && one->window == other->window &&
            one->halves == other->halves && memcmp(one->parents, other->parents, sizeof one->parents) == 0 &&
+           one->from == other->from && one->to == other->to &&
            one->threshold == other->threshold && one->cap == other->cap && one->floor == other->floor &&
            one->entries == other->entries && one->position == other->position &&
            memcmp(one->counts, other->counts, sizeof one->counts) == 0 &&

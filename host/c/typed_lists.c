@@ -1,11 +1,12 @@
 /* Lists of typed calls over random books. Each call is made, and beside it written as a record (docs/RECORDS.md) with the record
-   of its answer; at the end guxhamole_replay must write the same answers from the same calls. Openings and settings are held to the
-   independent refusals as well. */
+   of its answer; at the end guxhamole_replay must write the same answers from the same calls. Openings, settings, entries and restarts
+   are held to the independent code as well: it alone knows what a list with an additional link must answer, of which the replay's records
+   can tell nothing. */
 #include "typed_lists.h"
 
 #include "guarded.h"
 #include "guxhamole.h"
-#include "independent_ledger.h"
+#include "independent_entry.h"
 #include "make.h"
 
 #include <string.h>
@@ -23,7 +24,7 @@ static struct bytes calls, wanted, answers;
 
 /* An entry's slices: how long each must be, and how long it is lent. */
 struct lengths {
-    size_t prices, regions, schedule, ring;
+    size_t prices, regions, links, schedule, ring;
 };
 
 struct entry {
@@ -47,7 +48,8 @@ struct host {
     struct entry entry;
     struct list_counts *counts;
     int whole; /* no call wrote to what it wasn't lent */
-    int ruled; /* openings and settings were answered as the independent rules say */
+    int ruled; /* openings, settings, entries and restarts were answered as the independent rules say */
+    struct independent_ledger ledger;
 };
 
 static void put(struct bytes *to, int width, uint64_t number)
@@ -93,6 +95,12 @@ static int64_t any_threshold(void)
     }
 }
 
+static void set_link(guxhamole_settings *settings, struct independent_link link)
+{
+    settings->from = link.from;
+    settings->to = link.to;
+}
+
 static guxhamole_settings any_settings(void)
 {
     guxhamole_settings settings;
@@ -106,6 +114,7 @@ static guxhamole_settings any_settings(void)
     for (int region = 1; region < settings.regions; region++)
         if (!seldom(4))
             settings.parents[region] = (uint8_t)within(0, region - 1);
+    set_link(&settings, seldom(2) ? independent_no_link() : any_link(settings.regions, settings.parents));
     settings.threshold = 10000 * within(1, 40);
     settings.cap = 60000;
     settings.floor = -60000;
@@ -115,6 +124,8 @@ static guxhamole_settings any_settings(void)
 /* In one list of ten a setting is bad, and every call after it is refused by 10. */
 static void spoil_settings(guxhamole_settings *settings)
 {
+    if (settings->from != GUXHAMOLE_NONE && seldom(8))
+        set_link(settings, any_ends(settings->regions, settings->parents));
     switch (below(80)) {
     case 0: settings->regions = seldom(2) ? 0 : 9; break;
     case 1: settings->services = 11; break;
@@ -136,13 +147,13 @@ static void lend(struct host *host)
     host->ring = (int32_t *)guarded(4 * right.ring);
     host->other_length = right.ring > 0 && seldom(2) ? right.ring - wrong : right.ring;
     host->other = (int32_t *)guarded(4 * right.ring);
-    host->image_length = 148 + 4 * right.ring - wrong;
+    host->image_length = (host->settings.from == GUXHAMOLE_NONE ? 148 : 156) + 4 * right.ring - wrong;
     host->image = (uint8_t *)guarded(host->image_length);
     entry->prices = (int32_t *)guarded_fixed(4 * (right.prices + SPARE));
-    entry->flows = (int32_t *)guarded_fixed(4 * (right.regions + SPARE));
+    entry->flows = (int32_t *)guarded_fixed(4 * (right.links + SPARE));
     entry->schedule = (int32_t *)guarded_fixed(4 * (right.schedule + SPARE));
     entry->marks = (uint8_t *)guarded_fixed(right.regions + SPARE);
-    entry->factors = (uint32_t *)guarded_fixed(4 * (right.regions + SPARE));
+    entry->factors = (uint32_t *)guarded_fixed(4 * (right.links + SPARE));
     entry->table = (int32_t *)guarded(4 * (right.prices + SPARE));
 }
 
@@ -163,7 +174,9 @@ static void open_book(struct host *host)
     put(&calls, 4, (uint32_t)settings->floor);
     guxhamole_kept kept = guxhamole_open(*settings, host->ring, host->right.ring);
     host->opened = kept.number == GUXHAMOLE_ACCEPTED;
-    host->ruled &= kept.number == independent_opening(settings, independent_settings_link(settings), host->right.ring);
+    host->ruled &= kept.number == independent_opening(settings, host->right.ring);
+    if (host->opened)
+        independent_ledger_open(&host->ledger, settings);
     host->book = kept.book;
     put_answer(host, 14, OPENING, kept.number, kept.place);
 }
@@ -183,23 +196,24 @@ static void fill_entry(struct host *host)
         entry->prices[i] = (int32_t)(i % markets ? within(0, 100000) : within(-90000, 120000));
         entry->table[i] = (int32_t)next();
     }
-    for (size_t region = 0; region < regions + SPARE; region++) {
+    for (size_t region = 0; region < regions + SPARE; region++)
         entry->marks[region] = (uint8_t)seldom(6);
-        entry->flows[region] = (int32_t)within(-1, 1);
-        entry->factors[region] = (uint32_t)within(10000, 20000);
+    for (size_t place = 0; place < host->right.links + SPARE; place++) {
+        entry->flows[place] = (int32_t)within(-1, 1);
+        entry->factors[place] = (uint32_t)within(10000, 20000);
     }
     for (size_t i = 0; i < host->right.schedule + SPARE; i++)
         entry->schedule[i] = (int32_t)(seldom(9) ? (int64_t)next() >> 32 : within(-100000, 100000));
     entry->prices_length = about(host->right.prices);
     entry->table_length = about(host->right.prices);
     entry->marks_length = about(regions);
-    entry->flows_length = about(regions);
-    entry->factors_length = about(regions);
+    entry->flows_length = about(host->right.links);
+    entry->factors_length = about(host->right.links);
     entry->schedule_length = about(host->right.schedule);
     entry->ring_length = host->right.ring - (host->right.ring > 0 && seldom(400) ? 1 : 0);
 }
 
-static void spoil_entry(struct entry *entry, size_t regions, size_t prices)
+static void spoil_entry(struct entry *entry, size_t regions, size_t links, size_t prices)
 {
     switch (below(40)) {
     case 0: entry->number += (uint32_t)within(1, 3); break;
@@ -207,7 +221,7 @@ static void spoil_entry(struct entry *entry, size_t regions, size_t prices)
     case 2: entry->marks[below(regions)] = (uint8_t)within(2, 255); break;
     case 3: entry->prices[below(prices)] = seldom(2) ? 10000001 : -10000001; break;
     case 4: entry->prices[below(prices)] = -1; break;
-    case 5: entry->factors[below(regions)] = seldom(2) ? 9999 : 20001; break;
+    case 5: entry->factors[below(links)] = seldom(2) ? 9999 : 20001; break;
     default: break;
     }
 }
@@ -237,11 +251,54 @@ static void put_entry(const struct entry *entry)
     put_words(&calls, entry->table, entry->table_length);
 }
 
+/* What an entry must answer. */
+struct wanted {
+    struct independent_refusal refusal;
+    uint32_t count;
+    int32_t table[88];
+};
+
+/* The entry as the independent code takes it, its lengths being right. */
+static struct independent_interval interval_of(const struct host *host)
+{
+    const struct entry *entry = &host->entry;
+    struct independent_interval interval;
+    memset(&interval, 0, sizeof interval);
+    interval.entry = entry->number, interval.day_kind = entry->day_kind;
+    memcpy(interval.prices, entry->prices, 4 * host->right.prices);
+    memcpy(interval.marks, entry->marks, host->right.regions);
+    memcpy(interval.flows, entry->flows, 4 * host->right.links);
+    memcpy(interval.factors, entry->factors, 4 * host->right.links);
+    return interval;
+}
+
+/* By the independent ledger, which then has it. */
+static struct wanted entry_wanted(struct host *host)
+{
+    const struct entry *entry = &host->entry;
+    struct wanted want = {{10, 0}, 0, {0}};
+    struct independent_lengths lent = {entry->ring_length, entry->prices_length, entry->marks_length, entry->flows_length,
+                                       entry->factors_length, entry->schedule_length, entry->table_length};
+    if (!host->opened)
+        return want;
+    want.refusal.number = 11;
+    if (independent_lengths_bad(&host->ledger, &lent))
+        return want;
+    struct independent_interval interval = interval_of(host);
+    want.refusal = independent_entry_refusal(&host->ledger, &interval);
+    if (want.refusal.number != 0)
+        return want;
+    want.count = independent_entry_publish(&host->ledger, &interval, entry->schedule, want.table);
+    independent_ledger_enter(&host->ledger, interval.prices, interval.marks);
+    return want;
+}
+
 static void enter(struct host *host)
 {
     struct entry *entry = &host->entry;
     fill_entry(host);
-    spoil_entry(entry, host->right.regions, host->right.prices);
+    spoil_entry(entry, host->right.regions, host->right.links, host->right.prices);
+    struct wanted want = entry_wanted(host);
     put_entry(entry);
     guarded_keep();
     static int32_t ring[RING_MOST];
@@ -253,6 +310,9 @@ static void enter(struct host *host)
                         entry->factors_length, entry->schedule, entry->schedule_length, entry->table, entry->table_length);
     host->book = entered.book;
     host->whole &= entry->table[entry->table_length] == after;
+    host->ruled &= entered.number == want.refusal.number && entered.place == want.refusal.place && entered.count == want.count;
+    if (want.refusal.number == 0)
+        host->ruled &= memcmp(want.table, entry->table, 4 * host->right.prices) == 0;
     if (entered.number != GUXHAMOLE_ACCEPTED)
         host->whole &= memcmp(ring, host->ring, 4 * host->right.ring) == 0;
     put_answer(host, 18 + 4 * entry->table_length, ENTRY, entered.number, entered.place);
@@ -261,6 +321,7 @@ static void enter(struct host *host)
     host->counts->entries++;
     host->counts->accepted += entered.number == GUXHAMOLE_ACCEPTED;
     host->counts->changed += entered.count;
+    host->counts->linked += entered.number == GUXHAMOLE_ACCEPTED && host->book.from != GUXHAMOLE_NONE;
 }
 
 /* A setting is refused by the rule, or by 10 where the opening was refused. */
@@ -276,6 +337,8 @@ static void set_threshold(struct host *host)
     put(&calls, 8, (uint64_t)threshold);
     guxhamole_kept kept = guxhamole_set_threshold(host->book, threshold);
     expect(host, kept.number, independent_threshold(threshold));
+    if (kept.number == GUXHAMOLE_ACCEPTED)
+        host->ledger.settings.threshold = threshold;
     host->book = kept.book;
     put_answer(host, 14, THRESHOLD, kept.number, kept.place);
 }
@@ -288,6 +351,8 @@ static void set_limits(struct host *host)
     put(&calls, 4, (uint32_t)floor);
     guxhamole_kept kept = guxhamole_set_limits(host->book, cap, floor);
     expect(host, kept.number, independent_limits(cap, floor));
+    if (kept.number == GUXHAMOLE_ACCEPTED)
+        host->ledger.settings.cap = cap, host->ledger.settings.floor = floor;
     host->book = kept.book;
     put_answer(host, 14, LIMITS, kept.number, kept.place);
 }
@@ -306,11 +371,14 @@ static void report(struct host *host)
     put(&wanted, 4, reading.entries);
 }
 
-/* A store and a load into the other ring: the book and the ring go on if both are accepted. */
+/* A store and a load into the other ring: the book and the ring go on if both are accepted. By kind 1, as a replay does, unless the list
+   has a link: there by either. */
 static void restart(struct host *host)
 {
+    unsigned kind = host->settings.from != GUXHAMOLE_NONE && seldom(2) ? 2 : 1;
     put_head(&calls, 6, RESTART);
-    guxhamole_stored stored = guxhamole_store(host->book, host->ring, host->right.ring, host->image, host->image_length);
+    guxhamole_stored stored = kind == 1 ? guxhamole_store(host->book, host->ring, host->right.ring, host->image, host->image_length)
+                                        : guxhamole_store_kind_2(host->book, host->ring, host->right.ring, host->image, host->image_length);
     uint32_t number = stored.number;
     uint64_t place = 0;
     if (number == GUXHAMOLE_ACCEPTED) {
@@ -325,6 +393,7 @@ static void restart(struct host *host)
             host->counts->restarts++;
         }
     }
+    expect(host, number, independent_ledger_restart(&host->ledger, kind, host->image_length, host->other_length));
     put_answer(host, 14, RESTART, number, place);
 }
 
@@ -349,6 +418,7 @@ static struct lengths lengths_of(guxhamole_settings good, guxhamole_settings tol
     struct lengths right;
     size_t most = GUXHAMOLE_RING(told.regions, told.services, told.window);
     right.regions = good.regions;
+    right.links = GUXHAMOLE_LINKS(good.regions, good.from);
     right.prices = GUXHAMOLE_PRICES(good.regions, good.services);
     right.schedule = GUXHAMOLE_SCHEDULE(good.regions, good.services, good.halves);
     right.ring = GUXHAMOLE_RING(good.regions, good.services, good.window) - (seldom(50) ? 1 : 0);
@@ -359,7 +429,7 @@ static struct lengths lengths_of(guxhamole_settings good, guxhamole_settings tol
 
 int list_alike(struct list_counts *counts)
 {
-    struct host host;
+    static struct host host;
     memset(&host, 0, sizeof host);
     guxhamole_settings good = any_settings();
     host.settings = good;
@@ -381,7 +451,9 @@ int list_alike(struct list_counts *counts)
         if (seldom(7))
             restart(&host);
     }
-    int alike = host.whole && host.ruled && replayed_alike(&host);
+    int replayed = good.from == GUXHAMOLE_NONE;
+    int alike = host.whole && host.ruled && (!replayed || replayed_alike(&host));
+    counts->replayed += replayed;
     guarded_free();
     return alike;
 }

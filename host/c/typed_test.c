@@ -1,4 +1,4 @@
-/* Holds the typed calls to others: lists of calls to guxhamole_replay; loads and stores, the schedule maker and the amount text to
+/* Holds the typed calls to others: lists of calls to guxhamole_replay and the independent code; loads and stores, the schedule maker and the amount text to
    the independent code; books that were damaged, are full or have a wrong sum to the refusals that they must meet; and limits over
    links to cases worked by hand. Guards stand round all that is lent. All from a fixed seed. Exit status 1 with the case at the
    first difference. Given a number, it does that part of it alone: `typed_test 10` a tenth, for slow checkers. */
@@ -15,7 +15,7 @@
 
 enum { LISTS = 200, IMAGES = 2000, SCHEDULES = 1500, TEXTS = 20000, WIDEST = 12, RING_MOST = 88 * WIDEST };
 
-static long loads, stores, damaged, makings, texts;
+static long loads, stores, linked, damaged, makings, texts;
 static int part = 1;
 
 static void differs(const char *what, uint64_t from)
@@ -52,20 +52,44 @@ static int sheet_alike(const guxhamole_book *book, const uint8_t *image, size_t 
     return strcmp(want, told) == 0;
 }
 
+/* By the kind that an image says, or the other. */
+static guxhamole_stored store(const guxhamole_book *book, const int32_t *ring, size_t places, unsigned kind, uint8_t *buffer, size_t room)
+{
+    return kind == 1 ? guxhamole_store(*book, ring, places, buffer, room) : guxhamole_store_kind_2(*book, ring, places, buffer, room);
+}
+
+/* By the other kind than its image's it is the same with eight bytes more or fewer; by kind 1 not with a link. */
+static int stores_other(const guxhamole_book *book, const int32_t *ring, size_t places, const uint8_t *image, size_t length)
+{
+    static const uint8_t none[] = {255, 255, 0, 0, 255, 255, 255, 255};
+    static uint8_t buffer[IMAGE_HEAD + 4 * RING_MOST];
+    unsigned kind = image[4] == 1 ? 2 : 1;
+    guxhamole_stored stored = store(book, ring, places, kind, buffer, sizeof buffer);
+    if (book->from != GUXHAMOLE_NONE) {
+        linked++;
+        return kind == 1 && stored.number == GUXHAMOLE_IMAGE_FIRST && stored.length == 0;
+    }
+    size_t head = image_head(image), other_head = image_head(buffer);
+    return stored.number == 0 && stored.length == length - head + other_head && buffer[4] == kind && buffer[5] == 0 &&
+           memcmp(buffer + 6, image + 6, 142) == 0 && memcmp(buffer + other_head, image + head, length - head) == 0 &&
+           memcmp((kind == 1 ? image : buffer) + 148, none, sizeof none) == 0;
+}
+
 /* A loaded book stores to the image's bytes, into no shorter buffer, and the bytes after them stay. */
 static int stores_back(const guxhamole_book *book, const int32_t *ring, size_t places, const uint8_t *image, size_t length)
 {
     uint8_t *buffer = (uint8_t *)guarded(length + 5);
     memset(buffer, 77, length + 5);
-    guxhamole_stored shorter = guxhamole_store(*book, ring, places, buffer, length - 1);
+    guxhamole_stored shorter = store(book, ring, places, image[4], buffer, length - 1);
     int stayed = shorter.number == GUXHAMOLE_BUFFER && shorter.length == 0;
     for (size_t i = 0; i < length + 5; i++)
         stayed &= buffer[i] == 77;
-    guxhamole_stored stored = guxhamole_store(*book, ring, places, buffer, length + 5);
+    guxhamole_stored stored = store(book, ring, places, image[4], buffer, length + 5);
     for (size_t i = length; i < length + 5; i++)
         stayed &= buffer[i] == 77;
     stores++;
-    return stayed && stored.number == 0 && stored.length == length && memcmp(buffer, image, length) == 0;
+    return stayed && stored.number == 0 && stored.length == length && memcmp(buffer, image, length) == 0 &&
+           stores_other(book, ring, places, image, length);
 }
 
 /* A load is refused as the independent check says, 11 before 16; refused, it leaves the ring and answers the closed book. */
@@ -108,10 +132,8 @@ static void images(void)
         if (places > 0)
             put_price(image, below(places), below(2) ? 10000001 : -10000001);
         load(image, length, from);
-        if (make_links) {
-            damage_link(image, length);
-            load(image, length, from);
-        }
+        damage_link(image, length);
+        load(image, length, from);
         image[4 + below(length - 4)] = (uint8_t)next();
         load(image, length, from);
         load(image, below(length), from);
@@ -139,7 +161,7 @@ static uint32_t bill_refusal(guxhamole_book book, const int32_t *ring, size_t pl
 static uint32_t refusals_of(guxhamole_book book, int32_t *ring, size_t places)
 {
     static int32_t zeros[88 * 2 * 48], table[88], flows[8];
-    static uint8_t marks[8], image[148 + 4 * RING_MOST];
+    static uint8_t marks[8], image[IMAGE_HEAD + 4 * RING_MOST];
     static uint32_t factors[8];
     guxhamole_kept threshold = guxhamole_set_threshold(book, 10000), limits = guxhamole_set_limits(book, 1, -1);
     guxhamole_entered entered =
@@ -158,13 +180,16 @@ static uint32_t refusals_of(guxhamole_book book, int32_t *ring, size_t places)
         guxhamole_interval_rewrite(book, marks, 8, 0, image, sizeof image).number != number ||
         guxhamole_synthetic(book, 1, 0, 0, table, 88, marks, 8, flows, 8, factors, 8).number != number)
         return 0;
-    return guxhamole_store(book, ring, places, image, sizeof image).number == number ? number : 0;
+    for (unsigned kind = 1; kind <= 2; kind++)
+        if (store(&book, ring, places, kind, image, sizeof image).number != number)
+            return 0;
+    return number;
 }
 
 /* A book of the largest shape but for its window, open, with as many entries taken and prices counted as are told. */
 static guxhamole_book loaded_book(uint32_t entries, int32_t *ring)
 {
-    static uint8_t image[148 + 4 * RING_MOST];
+    static uint8_t image[IMAGE_HEAD + 4 * RING_MOST];
     struct plan plan = plain();
     plan.regions = 8, plan.services = 10, plan.window = WIDEST, plan.halves = 48, plan.entries = entries, plan.threshold = 100000;
     for (int region = 0; region < 8; region++)
@@ -182,6 +207,21 @@ static void damage_one(guxhamole_book book, int32_t *ring, const char *what)
     damaged++;
 }
 
+/* Every pair of ends of a book in a chain is 10 to a report, or not, as the independent code has it; the near ones are so to every call. */
+static void damaged_ends(guxhamole_book book, int32_t *ring)
+{
+    for (unsigned region = 1; region < 8; region++)
+        book.parents[region] = (uint8_t)(region - 1);
+    for (unsigned pair = 0; pair < 65536; pair++) {
+        book.from = (uint8_t)pair, book.to = (uint8_t)(pair >> 8);
+        int bad = independent_ends_bad(8, book.parents, independent_book_link(&book));
+        if ((guxhamole_report(book, 0, 0).number == GUXHAMOLE_BOOK) != bad)
+            differs("a book's ends", pair);
+        if (bad && (book.from < 10 || book.from == 255) && (book.to < 10 || book.to == 255))
+            damage_one(book, ring, "a book's ends");
+    }
+}
+
 /* Every field of a book one past its bound, one at a time, is 10 to every call. */
 static void damaged_books(void)
 {
@@ -195,8 +235,9 @@ static void damaged_books(void)
     DAMAGE(floor = -10000001), DAMAGE(entries = 10000001), DAMAGE(entries = 2), DAMAGE(position = 288);
     DAMAGE(counts[5] = WIDEST + 1), DAMAGE(counts[5] = 21), DAMAGE(nexts[2] = 4), DAMAGE(nexts[2] = WIDEST);
     DAMAGE(sums[87] = 20160000001), DAMAGE(sums[0] = -20160000001), DAMAGE(marks[40] = 2), DAMAGE(marks[87] = 255);
-    DAMAGE(regions = 7), DAMAGE(services = 9);
+    DAMAGE(regions = 7), DAMAGE(services = 9), DAMAGE(from = 0), DAMAGE(to = 0);
 #undef DAMAGE
+    damaged_ends(good, ring);
     memset(&book, 0, sizeof book);
     damage_one(book, ring, "the closed book");
     memset(&book, 0xee, sizeof book);
@@ -241,7 +282,7 @@ static void pass_on(const struct passed_on *passed)
 {
     static const uint8_t marks[4] = {0};
     static const int32_t still[4] = {0}, schedule[8] = {0}, first[4] = {100000, 0, 0, 0};
-    guxhamole_settings settings = {4, 0, 1, 1, 0, {255, 0, 1, 2, 255, 255, 255, 255}, 90000, passed->cap, passed->floor};
+    guxhamole_settings settings = {4, 0, 1, 1, 0, {255, 0, 1, 2, 255, 255, 255, 255}, 255, 255, 90000, passed->cap, passed->floor};
     int32_t *ring = (int32_t *)guarded(16), *table = (int32_t *)guarded(16), prices[4], flows[4];
     for (size_t region = 0; region < 4; region++) {
         prices[region] = passed->price;
@@ -337,11 +378,15 @@ int main(int count, char **words)
         pass_on(&passed_on[i]);
     schedules();
     amounts();
-    printf("%d lists of %ld calls alike: %ld entries (%ld accepted, %ld prices changed), %ld restarts; refusals", LISTS / part,
-           counts.calls, counts.entries, counts.accepted, counts.changed, counts.restarts);
+    printf("%d lists of %ld calls alike, %ld of them replayed: %ld entries (%ld accepted, %ld with a link, %ld prices changed), %ld "
+           "restarts; refusals", LISTS / part, counts.calls, counts.replayed, counts.entries, counts.accepted, counts.linked,
+           counts.changed, counts.restarts);
     for (int number = 1; number < 64; number++)
         if (counts.seen[number] != 0)
             printf(" %d: %ld", number, counts.seen[number]);
-    printf("; %ld loads, %ld stores, %ld damaged books, %ld schedules, %ld texts\n", loads, stores, damaged, makings, texts);
+    printf("; %ld loads, %ld stores (%ld of them with a link), %ld damaged books, %ld schedules, %ld texts\n", loads, stores, linked,
+           damaged, makings, texts);
+    if (linked < 500 / part || counts.linked < 6000 / part || counts.replayed < 70 / part || counts.seen[47] < 300 / part)
+        differs("too few links", 0);
     return 0;
 }

@@ -132,7 +132,7 @@ static size_t replay(void)
 {
     static int32_t ring[RING], other[RING], numbers[PRICES + REGIONS + SCHEDULE], table[PRICES];
     static uint32_t factors[REGIONS];
-    static uint8_t image[148 + 4 * RING];
+    static uint8_t image[GUXHAMOLE_IMAGE_MAX(REGIONS, SERVICES, WINDOW)];
     return guxhamole_replay(calls, written, answers, sizeof answers, ring, RING, other, RING, image, sizeof image,
                             numbers, PRICES + REGIONS + SCHEDULE, factors, REGIONS, table, PRICES);
 }

@@ -80,7 +80,9 @@ static void refusals(void)
     play("147 bytes", 147, "refused 24\n");
     play("a byte too many", length + 1, "refused 24\n");
     image[4] = 2;
-    play("kind 2", length, "refused 25\n");
+    play("a head of kind 1 that says kind 2", length, "refused 24\n");
+    image[4] = 3;
+    play("kind 3", length, "refused 25\n");
     image[4] = 1, image[6] = 0;
     play("no region", length, "refused 26\n");
     image[6] = 1, image[44] = 1, image[20] = 1;
@@ -94,6 +96,26 @@ static void refusals(void)
     length = lay_out(&p, 0, image);
     put_price(image, 0, -1);
     play("energy below 0", length, NULL);
+}
+
+/* Kind 2, of which a sheet is made as well: three regions in a chain whose last is linked to its first; and damaged. */
+static void kind_2(void)
+{
+    struct plan p = plain();
+    p.regions = 3, p.entries = 1, p.kind = 2, p.parents[1] = 0, p.parents[2] = 1, p.link = independent_ends(2, 0);
+    p.counts[0] = p.counts[1] = p.counts[2] = 1, p.periods[0] = 1;
+    size_t length = lay_out(&p, 700, image);
+    play("a ring", length, "region,market,counted,sum,administered\n0,0,1,7.00,1\n1,0,1,7.00,0\n2,0,1,7.00,0\n");
+    image[149] = 1;
+    play("linked already", length, "refused 26\n");
+    image[148] = image[149] = 255;
+    play("no link", length, "region,market,counted,sum,administered\n0,0,1,7.00,1\n1,0,1,7.00,0\n2,0,1,7.00,0\n");
+    image[152] = 0;
+    play("a changeover", length, "refused 26\n");
+    p.kind = 1;
+    length = lay_out(&p, 700, image);
+    image[4] = 2;
+    play("kind 1 that says kind 2", length, "refused 26\n");
 }
 
 /* The longest inputs: 65,536 bytes are looked at, 65,537 are not. */
@@ -183,6 +205,7 @@ int main(int count, char **words)
     program = words[1];
     worked();
     refusals();
+    kind_2();
     longest();
     rings();
     thresholds();
