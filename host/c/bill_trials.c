@@ -34,9 +34,10 @@ void trial_copy(struct bill_trial *to, const struct bill_trial *from)
 
 struct independent_bill bill_of(const struct bill_trial *trial)
 {
-    struct independent_bill bill = {trial->book, trial->ring, trial->ring_length, trial->work_length, trial->records, trial->records_length, trial->schedule, trial->schedule_length,
-                                    trial->region, trial->numbers, trial->energy, trial->prices, trial->amounts, trial->numbers_length,
-                                    trial->energy_length, trial->prices_length, trial->amounts_length};
+    struct independent_bill bill = {trial->book, trial->ring, trial->ring_length, trial->work_length, trial->records,
+                                    trial->records_length, trial->schedule, trial->schedule_length, trial->region, trial->numbers,
+                                    trial->energy, trial->prices, trial->amounts, trial->numbers_length, trial->energy_length,
+                                    trial->prices_length, trial->amounts_length};
     return bill;
 }
 

@@ -59,7 +59,8 @@ struct box {
     struct box_files files;
 };
 
-/* Saves the book, by kind 2, which tells every book. A box whose book and file would part company ends, and the next start goes on from the file. */
+/* Saves the book, by kind 2, which tells every book. A box whose book and file would part company ends, and the next start goes on from
+   the file. */
 static void save(struct box *box)
 {
     guxhamole_stored stored = guxhamole_store_kind_2(box->book, box->ring, RING, box->image, IMAGE_MAX);

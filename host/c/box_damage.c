@@ -9,7 +9,10 @@
 #include <stdlib.h>
 #include <string.h>
 
-enum { HEAD = 12, REGION = 16 + 4 * MARKETS, LAST = HEAD + (REGIONS - 1) * REGION, LINK = LAST + REGION, CUT = -1, LACKS = 0, BYTES = 3 * INTERVAL };
+enum {
+    HEAD = 12, REGION = 16 + 4 * MARKETS, LAST = HEAD + (REGIONS - 1) * REGION, LINK = LAST + REGION,
+    CUT = -1, LACKS = 0, BYTES = 3 * INTERVAL
+};
 
 /* The byte at `at` of the interval becomes `byte`, or the file ends there; and how the interval is then refused. */
 struct damage {
@@ -28,7 +31,8 @@ static const struct damage damages[] = {
     {HEAD + 5, CUT, 40, 0}, {HEAD + 6, CUT, 40, 0}, {HEAD + REGION - 1, CUT, 40, 0}, {HEAD + REGION, CUT, 40, 0},
     {HEAD, 5, 40, 0}, {HEAD, REGION + 1, 40, 0}, {HEAD + 4, 16, 40, 0}, {HEAD + 4, 99, 41, 0}, {HEAD + 5, 17, 41, 0},
     {HEAD + 6, 1, 45, 0}, {HEAD + 6, REGIONS, 45, 0}, {HEAD + 6, 255, 45, 0},
-    {LAST, REGION - 1, 40, 0}, {LAST + 4, 18, 40, 0}, {LAST + 4, 19, 41, 0}, {LAST + 6, 0, 45, 0}, {LAST + 6, REGIONS, 45, 0}, {INTERVAL - 1, CUT, 40, 0},
+    {LAST, REGION - 1, 40, 0}, {LAST + 4, 18, 40, 0}, {LAST + 4, 19, 41, 0}, {LAST + 6, 0, 45, 0}, {LAST + 6, REGIONS, 45, 0},
+    {INTERVAL - 1, CUT, 40, 0},
     /* whole records that the entry refuses: the number, the day kind, marks, a price, a service's, a factor */
     {6, 255, 13, 0}, {10, 2, 14, 0}, {HEAD + 7, 2, 15, 0}, {LAST + 7, 1, LACKS, 0}, {HEAD + 2 * REGION + 19, 127, 16, 2 * MARKETS},
     {HEAD + REGION + 23, 128, 16, MARKETS + 1}, {HEAD + REGION + 14, 1, 17, 1},

@@ -5,8 +5,8 @@
    same in the earlier form, in every order, for `box rewrite`. `box_feed short` prints host/c/box.lines, a sample with every kind of
    line, and `box_feed sample` the bytes of its file of records, host/c/box.records, `box_feed earlier` those of host/c/box.earlier,
    the same intervals in the earlier form. `box_feed image` prints an image of the market with nothing entered and a threshold of 95,000
-   cents, which no box can be set, of kind 1, as an earlier box saved it; `box_feed image_2` the same of kind 2, with the market's additional
-   link, if any. */
+   cents, which no box can be set, of kind 1, as an earlier box saved it; `box_feed image_2` the same of kind 2, with the market's
+   additional link, if any. */
 #include "feed.h"
 #include "test_books.h"
 

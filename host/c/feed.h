@@ -14,7 +14,8 @@ void feed_records(FILE *out, const struct line *line, const int *order);
 /* The regions in an order that follows from the number: all orders in turn. */
 void feed_order(uint32_t number, int *order);
 
-/* An interval of ordinary prices: nothing marked, power to the parents and over the additional link, factors of 1.05; the number and the kind are to be set. */
+/* An interval of ordinary prices: nothing marked, power to the parents and over the additional link, factors of 1.05; the number
+   and the kind are to be set. */
 struct line feed_interval(void);
 
 #endif

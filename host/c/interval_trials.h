@@ -26,7 +26,8 @@ size_t interval_length(const guxhamole_book *book);
 size_t record_place(const struct trial *trial, size_t record);
 
 /* A new book of this size with a window of 1, each region linked to the one before. Where `linked` isn't 0, and there is more than one
-   region, it has the additional link too, between the first and the last, named in the order that the sign says; of two it is the only one. */
+   region, it has the additional link too, between the first and the last, named in the order that the sign says; of two it is the only
+   one. */
 guxhamole_book book_of(unsigned regions, unsigned services, int linked);
 
 /* An interval for the book, ranges aside. */

@@ -425,8 +425,10 @@ int main(int count, char **words)
     kill_rewrites_counts();
     if (BOX_FROM == GUXHAMOLE_NONE && firsts < 60)
         fail("too few files of kind 1");
-    printf("%s link: %d lines of %d steps, %d files of kind 1 left by an earlier box, %d kills (%d in a file of records), after %d of them a line more was saved than answered; %d "
-           "damaged pairs of files: %d refusals, %d books of another market, %d starts (%d on IMAGE.old), %d times none\n",
-           BOX_FROM == GUXHAMOLE_NONE ? "without a" : "with a", world.count, world.step_count, firsts, kills, in_files, saved_unsaid, DAMAGED, refusals, foreign, started, fallen_back, not_started);
+    printf("%s link: %d lines of %d steps, %d files of kind 1 left by an earlier box, %d kills (%d in a file of records), after %d of them "
+           "a line more was saved than answered; %d damaged "
+           "pairs of files: %d refusals, %d books of another market, %d starts (%d on IMAGE.old), %d times none\n",
+           BOX_FROM == GUXHAMOLE_NONE ? "without a" : "with a", world.count, world.step_count, firsts, kills, in_files,
+           saved_unsaid, DAMAGED, refusals, foreign, started, fallen_back, not_started);
     return 0;
 }

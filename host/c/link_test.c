@@ -1,8 +1,8 @@
 /* Tests the independent code of books with an additional link (request 2026-10) and the archive, one after the other: the cases that were
    worked out (link_cases.h), and random books, images, records, test loads and bills (link_trials.h), limits being held to every
    permutation of the regions as a route. Then wrong variants of the independent code must each be told apart by the cases or the random
-   ones. All from a fixed seed. Exit status 1 with the case at the first difference, or where something came up too seldom. Given a number, it does that
-   part of the random ones alone: `link_test 10` a tenth, for slow checkers. */
+   ones. All from a fixed seed. Exit status 1 with the case at the first difference, or where something came up too seldom. Given a number,
+   it does that part of the random ones alone: `link_test 10` a tenth, for slow checkers. */
 #include "link_cases.h"
 #include "link_trials.h"
 #include "make.h"

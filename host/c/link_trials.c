@@ -28,8 +28,8 @@ static const struct {
     long least;
 } kinds[KINDS] = {
     {"begun from an image of kind 1", 300}, {"of kind 2", 1500},
-    {"books", 2000}, {"whose link closes a ring", 1000}, {"joins two parts", 300}, {"without a link", 400}, {"of one region", 200}, {"of eight", 25},
-    {"links from a lower region", 900}, {"from a higher one", 900}, {"ends refused by 20", 1200},
+    {"books", 2000}, {"whose link closes a ring", 1000}, {"joins two parts", 300}, {"without a link", 400},
+    {"of one region", 200}, {"of eight", 25}, {"links from a lower region", 900}, {"from a higher one", 900}, {"ends refused by 20", 1200},
     {"entries", 40000}, {"with the link's flow below 0", 14000}, {"of 0", 6000}, {"above 0", 14000}, {"with its factor of 10,000", 4000},
     {"of 20,000", 4000}, {"with power round a ring", 3000}, {"by two routes", 3000}, {"prices changed", 100000}, {"refused by 17", 1500},
     {"restarts by kind 1", 800}, {"by kind 2", 3000}, {"refused by 47", 3000}, {"by 23", 1500}, {"by 11", 1000},

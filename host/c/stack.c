@@ -289,6 +289,18 @@ static void fill_calls(void)
     put(4, 6), put(2, 69);
 }
 
+/* Entries and bills of each shape, and stores by kind 1 of books that it tells and doesn't. */
+static void measure_shapes(struct use *store)
+{
+    for (int shape = 0; shape < SHAPES; shape++)
+        measure_entries((enum shape)shape);
+    open_book(CHAIN);
+    expect(0, store);
+    for (int shape = 0; shape < SHAPES; shape++)
+        measure_bills((enum shape)shape);
+    expect(GUXHAMOLE_IMAGE_FIRST, store);
+}
+
 int main(void)
 {
     static struct use uses[] = {{"threshold", use_threshold, 0}, {"limits", use_limits, 0}, {"report", use_report, 0},
@@ -302,13 +314,7 @@ int main(void)
     settings = own;
     for (int day = 0; day < 28; day++)
         kinds[day] = day % 7 > 4;
-    for (int shape = 0; shape < SHAPES; shape++)
-        measure_entries((enum shape)shape);
-    open_book(CHAIN);
-    expect(0, &store);
-    for (int shape = 0; shape < SHAPES; shape++)
-        measure_bills((enum shape)shape);
-    expect(GUXHAMOLE_IMAGE_FIRST, &store);
+    measure_shapes(&store);
     within &= print(&store, GUXHAMOLE_STACK);
     expect(0, &load);
     within &= print(&enter, GUXHAMOLE_STACK);

@@ -19,7 +19,8 @@ static long cases;
 
 static guxhamole_settings settings_of(uint8_t regions, uint8_t services, uint16_t window, int64_t threshold)
 {
-    guxhamole_settings settings = {regions, services, window, 1, 0, {255, 255, 255, 255, 255, 255, 255, 255}, 255, 255, threshold, 60000, -60000};
+    guxhamole_settings settings = {regions, services, window, 1, 0, {255, 255, 255, 255, 255, 255, 255, 255}, 255, 255, threshold, 60000,
+                                   -60000};
     for (uint8_t region = 1; region < regions; region++)
         settings.parents[region] = (uint8_t)(region - 1);
     return settings;

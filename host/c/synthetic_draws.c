@@ -20,7 +20,7 @@ static const struct {
     const char *name;
     long least;
 } kinds[KINDS] = {
-    {"drawn", 50000}, {"with a link", 15000}, {"energy of 1,500,000", 900}, {"of -2,000", 500}, {"of 17,999", 500}, {"services of 0", 5000},
+    {"drawn", 80000}, {"with a link", 35000}, {"energy of 1,500,000", 900}, {"of -2,000", 500}, {"of 17,999", 500}, {"services of 0", 5000},
     {"of 2,999", 4000}, {"flows of -1,000", 600}, {"of 0", 300}, {"of 1,000", 600}, {"factors of 10,000", 1000},
     {"of 11,999", 800}, {"intervals entered", 15000}, {"refused as the book was full", 100},
     {"draws refused by 10", 9000}, {"by 10 of the ends alone", 800}, {"by 10 before 11", 7000}, {"by 11", 9000}};
@@ -102,7 +102,8 @@ void enter_drawn(const struct draw *draw, const struct independent_interval *int
     static const int32_t schedule[GUXHAMOLE_SCHEDULE(8, 10, 48)] = {0};
     static int32_t ring[GUXHAMOLE_RING(8, 10, 2016)], table[88];
     const guxhamole_book *book = &draw->book;
-    size_t regions = book->regions, links = GUXHAMOLE_LINKS(book->regions, book->from), prices = GUXHAMOLE_PRICES(book->regions, book->services);
+    size_t regions = book->regions, links = GUXHAMOLE_LINKS(book->regions, book->from);
+    size_t prices = GUXHAMOLE_PRICES(book->regions, book->services);
     guxhamole_entered entered =
         guxhamole_enter(*book, ring, prices * book->window, book->entries, 0, interval->prices, prices, interval->marks, regions,
                         interval->flows, links, interval->factors, links, schedule, prices * 2 * book->halves, table, prices);

@@ -1,10 +1,10 @@
-/* Holds the typed calls to others: lists of calls to guxhamole_replay and the independent code; loads and stores, the schedule maker and the amount text to
-   the independent code; books that were damaged, are full or have a wrong sum to the refusals that they must meet; and limits over
-   links to cases worked by hand. Guards stand round all that is lent. All from a fixed seed. Exit status 1 with the case at the
+/* Holds the typed calls to others: lists of calls to guxhamole_replay and the independent code; loads and stores, the schedule maker and
+   the amount text to the independent code; books that were damaged, are full or have a wrong sum to the refusals that they must meet; and
+   limits over links to cases worked by hand. Guards stand round all that is lent. All from a fixed seed. Exit status 1 with the case at the
    first difference. Given a number, it does that part of it alone: `typed_test 10` a tenth, for slow checkers. */
 #include "guarded.h"
 #include "guxhamole.h"
-#include "independent.h"
+#include "independent_image.h"
 #include "make.h"
 #include "test_books.h"
 #include "typed_lists.h"
@@ -92,27 +92,31 @@ static int stores_back(const guxhamole_book *book, const int32_t *ring, size_t p
            stores_other(book, ring, places, image, length);
 }
 
-/* A load is refused as the independent check says, 11 before 16; refused, it leaves the ring and answers the closed book. */
+/* A load is answered as the independent one is, 11 before 16; refused, it leaves the ring. */
 static void load(const uint8_t *bytes, size_t length, uint64_t from)
 {
     uint8_t *image = (uint8_t *)guarded_fixed(length);
     memcpy(image, bytes, length);
     guarded_keep();
+    static int32_t wanted[RING_MOST];
+    guxhamole_book book;
     uint32_t want = independent_check(image, length);
     size_t right = want == 0 || want == 16 ? GUXHAMOLE_RING(image[6], image[7], image[8] + 256u * image[9]) : 0;
     size_t places = right <= RING_MOST && below(10) != 0 ? right : below(RING_MOST);
-    if ((want == 0 || want == 16) && places != right)
-        want = GUXHAMOLE_LENGTH;
     int32_t *ring = (int32_t *)guarded(4 * places), touched = 0;
     for (size_t i = 0; i < places; i++)
         ring[i] = 1234567;
+    struct independent_refusal refusal = independent_load(image, length, wanted, places, &book);
     guxhamole_kept kept = guxhamole_load(image, length, ring, places);
-    if (kept.number != want || (want != GUXHAMOLE_PRICE && kept.place != 0))
+    want = refusal.number;
+    if (kept.number != want || kept.place != refusal.place || !same_book(&kept.book, &book))
         differs("a load", from);
+    if (want == 0 && memcmp(ring, wanted, 4 * places) != 0)
+        differs("a loaded ring", from);
     for (size_t i = 0; i < places; i++)
         touched |= ring[i] != 1234567;
-    if (want != 0 && (touched || !is_closed(&kept.book)))
-        differs("a refused load's ring or book", from);
+    if (want != 0 && touched)
+        differs("a refused load's ring", from);
     if (want == 0 && (!sheet_alike(&kept.book, image, length) || !stores_back(&kept.book, ring, places, image, length)))
         differs("a loaded book", from);
     if (!guarded_whole() || guxhamole_image_check(image, length) != independent_check(image, length))
