@@ -29,13 +29,13 @@ static const struct {
 } kinds[KINDS] = {
     {"begun from an image of kind 1", 300}, {"of kind 2", 1500},
     {"books", 2000}, {"whose link closes a ring", 1000}, {"joins two parts", 300}, {"without a link", 400},
-    {"of one region", 200}, {"of eight", 25}, {"links from a lower region", 900}, {"from a higher one", 900}, {"ends refused by 20", 1200},
+    {"of one region", 120}, {"of eight", 15}, {"links from a lower region", 600}, {"from a higher one", 600}, {"ends refused by 20", 1200},
     {"entries", 40000}, {"with the link's flow below 0", 14000}, {"of 0", 6000}, {"above 0", 14000}, {"with its factor of 10,000", 4000},
     {"of 20,000", 4000}, {"with power round a ring", 3000}, {"by two routes", 3000}, {"prices changed", 100000}, {"refused by 17", 1500},
     {"restarts by kind 1", 800}, {"by kind 2", 3000}, {"refused by 47", 3000}, {"by 23", 1500}, {"by 11", 1000},
     {"images of kind 1 loaded", 3000}, {"of kind 2", 3000}, {"with a link", 1500}, {"of another kind than they were", 800},
     {"refused by 24", 20}, {"by 25", 800}, {"by 26", 1500}, {"by 27", 200}, {"by 16", 2000},
-    {"cut to 148 to 156 bytes, refused by 24", 1000}, {"by 25", 1000}, {"by 26", 50}, {"by 27", 1000},
+    {"cut to 148 to 156 bytes, refused by 24", 1000}, {"by 25", 800}, {"by 26", 40}, {"by 27", 800},
     {"intervals read", 8000}, {"rewritten from another order", 3000}, {"refused by 40", 6000}, {"by 41", 3000},
     {"records of the link where none is due", 4000}, {"test loads", 4000}, {"bills", 1500}, {"refused by 17 of the link", 3000},
     {"by 10 of the ends", 3000}};

@@ -28,7 +28,7 @@ static const struct {
     const char *name;
     long least;
 } kinds[KINDS] = {
-    {"openings accepted", 2000}, {"with a link", 500}, {"refused by 20", 2000}, {"by 20 of the ends alone", 2000},
+    {"openings accepted", 1400}, {"with a link", 400}, {"refused by 20", 2000}, {"by 20 of the ends alone", 2000},
     {"by 20 before 44", 500}, {"by 11", 2000}, {"by 11 before 44", 500}, {"by 18", 1000},
     {"by 18 before 19", 250}, {"by 44", 1500}, {"by 44 before 19", 400}, {"by 19", 700},
     {"lists from an opening", 150}, {"from an image of kind 1", 100}, {"of kind 2", 300}, {"lists with a link", 300},
@@ -37,7 +37,7 @@ static const struct {
     {"entries", 60000}, {"with a link", 18000}, {"at a threshold that is no multiple", 4000},
     {"markets on another side of a multiple next to it", 1200},
     {"prices changed", 100000}, {"periods that ended", 10000}, {"restarts by kind 1", 800}, {"by kind 2", 1200},
-    {"refused by 47", 1000}, {"by 23", 500}, {"by 11", 300}};
+    {"refused by 47", 800}, {"by 23", 500}, {"by 11", 300}};
 
 static long seen[KINDS];
 

@@ -390,7 +390,7 @@ int main(int count, char **words)
             printf(" %d: %ld", number, counts.seen[number]);
     printf("; %ld loads, %ld stores (%ld of them with a link), %ld damaged books, %ld schedules, %ld texts\n", loads, stores, linked,
            damaged, makings, texts);
-    if (linked < 500 / part || counts.linked < 6000 / part || counts.replayed < 70 / part || counts.seen[47] < 300 / part)
+    if (linked < 250 / part || counts.linked < 4000 / part || counts.replayed < 60 / part || counts.seen[47] < 200 / part)
         differs("too few links", 0);
     return 0;
 }
