@@ -2,7 +2,7 @@
 //! questions for the intervals left, bills, the schedule maker, then the replay on the same bytes, entries, restarts, and whether an
 //! entry's cost grows with the window or with the history. The one argument is the number of rounds; `intervals` leaves all but the
 //! interval records out, `loads` all but the test load, `questions` all but the questions, `bills` all but the bills, `schedules` all but
-//! the schedule maker, `rings` is limits over a ring of regions by hand alone, and `count ..` makes calls to be counted by instructions.
+//! the schedule maker, `rings` all but entries of eight regions in a ring, and `count ..` makes calls to be counted by instructions.
 //! docs/PERFORMANCE.md says how to read the tables.
 
 mod bills;
@@ -96,6 +96,7 @@ fn all_tables(rounds: usize) {
     intervals_left(rounds);
     retail_bills(rounds);
     schedule_maker(rounds);
+    ring_of_eight(rounds);
     steady(rounds);
     history(rounds);
     restarts(rounds);
@@ -208,13 +209,16 @@ fn schedule_maker(rounds: usize) {
     }
 }
 
-/// Limits over a ring of eight regions, by hand alone: no part of all tables until the proved functions have the link.
+/// An entry of eight administered regions, in a row and with the additional link that makes it a ring.
 fn ring_of_eight(rounds: usize) {
-    let cost = rings::measure(rounds);
-    println!(
-        "limits over a ring of eight regions, by hand: {:.0} ({:.0})",
-        cost.median, cost.least
-    );
+    tables::head("typed entry, eight administered regions");
+    for services in [0, 10] {
+        for linked in [false, true] {
+            let name = if linked { "ring" } else { "row" };
+            let costs = rings::measure(services, linked, rounds);
+            tables::row(&format!("R 8, S {services}, H 48: {name}"), &costs);
+        }
+    }
 }
 
 /// An entry's cost once the window is full.

@@ -1,27 +1,70 @@
-//! Limits over a ring of eight regions by the search over routes written by hand: the worst case, in which power goes all the way round,
-//! every region is a source and every limit reaches every region. The proved functions have no additional link as yet and stand aside.
+//! Entries of eight regions in a row whose additional link closes a ring: the worst case of a search over routes, in which power goes all
+//! the way round, every region is administered at the cap, and every region's limit reaches every other. Beside it the same row without
+//! the link.
 
-use crate::timing::Cost;
-use crate::typed::{cost, timed};
-use fast::routes::{Limits, Links};
-use std::hint::black_box;
+use crate::lists::{Interval, Market, Trading};
+use crate::timing::Costs;
+use crate::typed::measure_trading;
+use guxhamole::{Settings, NONE};
 
-/// Eight regions in a row, and the link from the first back to the last.
+/// Entries that are timed in a round.
+const ENTRIES: usize = 2_000;
+
+/// Power goes from each region to the one before it, and by the link from the first to the last.
 const PARENTS: [u8; 8] = [255, 0, 1, 2, 3, 4, 5, 6];
-const ENDS: Option<(u8, u8)> = Some((0, 7));
-const FACTORS: [u32; 9] = [10_400; 9];
+const ENDS: (u8, u8) = (0, 7);
+const FACTOR: u32 = 10_400;
 
-/// A cap and a floor of 600 dollars in ten-thousandths of a cent, of every region.
-const CAPS: Limits = [Some(600_000_000); 8];
-const FLOORS: Limits = [Some(-600_000_000); 8];
+/// Beyond the cap of 600 dollars, and beyond the threshold in a window of one.
+const ENERGY: i32 = 100_000;
 
-/// The caps and floors that reach each region.
-pub fn search() -> (Limits, Limits) {
-    let links = Links::of(black_box(&PARENTS), ENDS, &[1; 9], black_box(&FACTORS));
-    links.passed_on(black_box(&CAPS), black_box(&FLOORS))
+/// The cost of an entry, from the second on, with so many services.
+pub fn measure(services: u8, linked: bool, rounds: usize) -> Costs {
+    let market = Market {
+        regions: 8,
+        services,
+        window: 1,
+        halves: 48,
+    };
+    let trading = trading(&market, linked);
+    let [entry, ..] = measure_trading(&market, &trading, 1, rounds);
+    entry
 }
 
-/// The cost of such a search, the links put together with it.
-pub fn measure(rounds: usize) -> Cost {
-    cost((0..rounds).map(|_| timed(20_000, search)))
+fn trading(market: &Market, linked: bool) -> Trading {
+    let (from, to) = if linked { ENDS } else { (NONE, NONE) };
+    let settings = Settings {
+        regions: market.regions,
+        services: market.services,
+        window: market.window,
+        halves: market.halves,
+        parents: PARENTS,
+        from,
+        to,
+        threshold: 90_000,
+        ..Settings::default()
+    };
+    Trading {
+        settings,
+        schedule: vec![0; market.schedule()],
+        intervals: (0..=ENTRIES as u32)
+            .map(|number| interval(market, &settings, number))
+            .collect(),
+    }
+}
+
+fn interval(market: &Market, settings: &Settings, number: u32) -> Interval {
+    let regions = usize::from(market.regions);
+    let links = guxhamole::flows_length(regions, settings.from);
+    let mut prices = vec![200; market.prices()];
+    let energies = prices.iter_mut().step_by(usize::from(market.services) + 1);
+    energies.for_each(|price| *price = ENERGY);
+    Interval {
+        number,
+        day_kind: 0,
+        prices,
+        marks: vec![0; regions],
+        flows: vec![1; links],
+        factors: vec![FACTOR; links],
+    }
 }

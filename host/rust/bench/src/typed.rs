@@ -86,6 +86,8 @@ impl Typed for fast::Book {
             halves: settings.halves,
             first: settings.first,
             parents: settings.parents,
+            from: settings.from,
+            to: settings.to,
             threshold: settings.threshold,
             cap: settings.cap,
             floor: settings.floor,
@@ -151,7 +153,7 @@ impl<B: Typed> Host<B> {
         Host {
             book: B::open(&trading.settings, &mut ring),
             other: vec![1; ring.len()],
-            image: vec![1; 148 + 4 * ring.len()],
+            image: vec![1; guxhamole::IMAGE_HEAD + 4 * ring.len()],
             table: vec![1; market.prices()],
             ring,
         }
@@ -231,16 +233,26 @@ pub fn timed<A>(calls: usize, mut call: impl FnMut() -> A) -> f64 {
 pub fn measure(market: &Market, trade: Trade, entries: usize, rounds: usize) -> [Costs; 4] {
     let full = usize::from(market.window);
     let trading = Trading::new(market, trade, full, full + entries);
-    let (mut proved, mut fast) = alike(market, &trading, full);
+    measure_trading(market, &trading, full, rounds)
+}
+
+/// The same of any trading, over its entries after the first ones.
+pub fn measure_trading(
+    market: &Market,
+    trading: &Trading,
+    full: usize,
+    rounds: usize,
+) -> [Costs; 4] {
+    let (mut proved, mut fast) = alike(market, trading, full);
     let starts = (proved.clone(), fast.clone());
-    let block = full..full + entries;
+    let block = full..trading.intervals.len();
     let mut times = [Vec::new(), Vec::new()];
     for round in 0..rounds {
         for turn in 0..2 {
             let player = (turn + round) % 2;
             times[player].push(match player {
-                0 => proved.times(&starts.0, &trading, block.clone()),
-                _ => fast.times(&starts.1, &trading, block.clone()),
+                0 => proved.times(&starts.0, trading, block.clone()),
+                _ => fast.times(&starts.1, trading, block.clone()),
             });
         }
     }

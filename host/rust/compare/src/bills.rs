@@ -8,7 +8,7 @@ use crate::typed::{same, told, verdict, Difference};
 use generator::bills::Checking;
 use guxhamole::{raw, Book, IntervalMut};
 use independent::bill::{Bill, Judgement};
-use independent::{Ledger, Refusal};
+use independent::{Kind, Ledger, Refusal};
 
 /// What a check answers.
 pub type Answer = Result<Judgement, Refusal>;
@@ -209,7 +209,8 @@ impl Entered {
         let regions = usize::from(self.book.regions);
         let all = regions * (usize::from(self.book.services) + 1);
         let (mut prices, mut marks) = (vec![0; all], vec![0; regions]);
-        let (mut flows, mut factors) = (vec![0; regions], vec![0; regions]);
+        let links = guxhamole::flows_length(regions, self.book.from);
+        let (mut flows, mut factors) = (vec![0; links], vec![0; links]);
         let slices = IntervalMut {
             prices: &mut prices,
             marks: &mut marks,
@@ -298,7 +299,8 @@ pub fn check_listed(ledger: &Ledger, checking: &Checking) -> Answer {
         let mut image = vec![0; book.stored_length()];
         let stored = book.store(&entered.ring, &mut image);
         assert_eq!(stored, Ok(image.len()), "{checking:?}");
-        assert!(image == after.image(), "the ledger's image: {checking:?}");
+        let expected = after.image_by(Kind::Two);
+        assert!(image == expected, "the ledger's image: {checking:?}");
     }
     answer
 }

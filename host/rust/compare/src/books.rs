@@ -6,7 +6,7 @@ use independent::book::Book;
 use independent::image::Fields;
 use independent::ledger::Entry;
 use independent::rules::{NO_END, NO_PARENT};
-use independent::{Answer, Call, Kind, Known, Ledger, Opening, Values};
+use independent::{Answer, Call, Ledger, Opening, Values};
 
 /// Unlinked regions, first position 0, threshold 90,000, limits ±60,000.
 pub fn opening(regions: u32, services: u32, window: u32, halves: u32) -> Opening {
@@ -42,7 +42,26 @@ pub fn parents(first: &[u8]) -> [u8; 8] {
 
 /// A book of a size as it is opened, W 1 and H 1, its regions in a chain.
 pub fn chained(regions: u32, services: u32) -> Book {
+    chained_with(regions, services, (NO_END, NO_END))
+}
+
+/// The same with an additional link from the chain's last region to its first; there are three at least.
+pub fn ringed(regions: u32, services: u32) -> Book {
+    chained_with(regions, services, (regions as u8 - 1, 0))
+}
+
+/// The book of a size in a chain, and in a ring where it can be one.
+pub fn chained_and_ringed(regions: u32, services: u32) -> Vec<Book> {
+    let mut books = vec![chained(regions, services)];
+    if regions > 2 {
+        books.push(ringed(regions, services));
+    }
+    books
+}
+
+fn chained_with(regions: u32, services: u32, (from, to): (u8, u8)) -> Book {
     let mut opening = opening(regions, services, 1, 1);
+    (opening.from, opening.to) = (from, to);
     for region in 1..regions as usize {
         opening.parents[region] = region as u8 - 1;
     }
@@ -65,8 +84,8 @@ pub fn open(opening: &Opening) -> Ledger {
 
 /// The ledger that begins with the image of a book of these settings, over a ring of the right length.
 pub fn begin(settings: &Opening) -> Ledger {
-    let image = Fields::blank(settings).bytes_by(Kind::holding(&settings.shape()));
-    let begun = Ledger::begin_by(Known::Link, &image, ring_length(settings));
+    let image = Fields::blank(settings).bytes();
+    let begun = Ledger::begin(&image, ring_length(settings));
     begun.expect("a valid image").expect("no entries")
 }
 

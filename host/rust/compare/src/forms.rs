@@ -49,7 +49,7 @@ impl Met {
 
     /// What the independent reader of the earlier form says, into slices that fit.
     pub fn read_earlier(&mut self, reading: &Reading) -> Result<Read, Refusal> {
-        let mut interval = fitting(&reading.book);
+        let mut interval = intervals::fitting(&reading.book.shape());
         let (records, at) = (&reading.records, reading.at);
         let next = reading.book.read_earlier(records, at, &mut interval);
         let answer = next.map(|next| Read { next, interval });
@@ -160,19 +160,6 @@ impl Met {
     }
 }
 
-/// Slices of a book's lengths.
-fn fitting(book: &Book) -> Interval {
-    let regions = usize::from(book.regions);
-    Interval {
-        number: 0,
-        kind: 0,
-        prices: vec![0; regions * (usize::from(book.services) + 1)],
-        marks: vec![0; regions],
-        flows: vec![0; regions],
-        factors: vec![0; regions],
-    }
-}
-
 /// 45 "in the reader … takes the place of 42": where regions are in number order both readers say the same, and where one isn't the next
 /// the reader says 45, whatever the earlier one finds there or behind. Slices that don't fit are lent to the reader alone.
 fn readers_agree(reading: &Reading, now: &Result<Read, Refusal>, then: &Result<Read, Refusal>) {
@@ -204,14 +191,16 @@ fn due(rewriting: &Rewriting, then: &Result<Read, Refusal>) -> u32 {
     }
 }
 
-/// Whether the regions of an interval that reads go 0, 1 and so on, by each record's own length.
+/// Whether the regions of an interval that reads go 0, 1 and so on, by each record's own length and kind.
 pub fn in_number_order(book: &Book, interval: &[u8]) -> bool {
     let mut rest = interval;
     let mut regions = Vec::new();
     while !rest.is_empty() {
         let length = u32::from_le_bytes([rest[0], rest[1], rest[2], rest[3]]);
-        regions.push(rest[6]);
+        if rest[4] == 17 {
+            regions.push(rest[6]);
+        }
         rest = &rest[length as usize..];
     }
-    regions[1..].iter().copied().eq(0..book.regions)
+    regions.into_iter().eq(0..book.regions)
 }

@@ -184,9 +184,9 @@ fn nothing(number: u32) -> Answer {
 
 /// An image with another threshold, whether or not that could be set.
 pub fn image_holding(image: &[u8], threshold: i64) -> Vec<u8> {
-    let mut fields = Fields::read(image);
-    fields.threshold = threshold;
-    fields.bytes()
+    let mut image = image.to_vec();
+    image[28..36].copy_from_slice(&threshold.to_le_bytes());
+    image
 }
 
 /// The ledger with another threshold: "An image that holds another threshold still loads, and that threshold stays until the next

@@ -25,6 +25,8 @@ pub fn compiled(book: &Paper) -> raw::Book {
         window: book.window,
         halves: book.halves,
         parents: book.parents,
+        from: book.from,
+        to: book.to,
         threshold: book.threshold,
         cap: book.cap,
         floor: book.floor,

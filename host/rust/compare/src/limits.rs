@@ -4,7 +4,7 @@
 use guxhamole::raw;
 use independent::ledger::Entry;
 use independent::rounding::half_away;
-use independent::rules::NO_PARENT;
+use independent::rules::{NO_END, NO_PARENT};
 
 /// What a link makes of a limit: times the first, divided by the second.
 pub type Link = (i128, i128);
@@ -117,7 +117,12 @@ impl Passing {
                 _ => continue,
             };
             let ways = ways(book, entry, limit > 0);
-            spread(&ways, source, limit, &[], &mut arrivals);
+            let arrival = Arrival {
+                region: source,
+                limit,
+                links: Vec::new(),
+            };
+            spread(&ways, &[source], arrival, &mut arrivals);
         }
         Passing {
             effective,
@@ -166,43 +171,52 @@ fn effective(book: &raw::Book, entry: &Entry, region: usize) -> i32 {
 /// limit with it.
 fn ways(book: &raw::Book, entry: &Entry, caps: bool) -> Vec<(usize, usize, Link)> {
     let mut ways = Vec::new();
-    for region in 0..usize::from(book.regions) {
-        let (parent, flow) = (book.parents[region], entry.flows[region]);
-        if parent == NO_PARENT || flow == 0 {
-            continue;
-        }
-        let factor = i128::from(entry.factors[region]);
+    for (place, first, second) in links(book) {
+        let (flow, factor) = (entry.flows[place], i128::from(entry.factors[place]));
         let link = if caps {
             (10_000, factor)
         } else {
             (factor, 10_000)
         };
-        let parent = usize::from(parent);
-        ways.push(if (flow > 0) == caps {
-            (parent, region, link)
-        } else {
-            (region, parent, link)
-        });
+        match flow.signum() {
+            0 => {}
+            sign if (sign > 0) == caps => ways.push((second, first, link)),
+            _ => ways.push((first, second, link)),
+        }
     }
     ways
 }
 
-/// A limit reaches a region, and from there every region beyond: links go one way and make no ring.
+/// The links: the place of each one's flow and factor, and the regions from and to which a flow above 0 goes.
+fn links(book: &raw::Book) -> Vec<(usize, usize, usize)> {
+    let regions = usize::from(book.regions);
+    let parents = book.parents.iter().enumerate().take(regions);
+    let linked = parents.filter(|(_, &parent)| parent != NO_PARENT);
+    let mut links: Vec<_> = linked
+        .map(|(region, &parent)| (region, region, usize::from(parent)))
+        .collect();
+    if book.from != NO_END {
+        links.push((regions, book.from.into(), book.to.into()));
+    }
+    links
+}
+
+/// A limit reaches a region, and from there every region beyond that it has not been at: an additional link may close a ring.
 fn spread(
     ways: &[(usize, usize, Link)],
-    region: usize,
-    limit: i128,
-    links: &[Link],
+    seen: &[usize],
+    arrival: Arrival,
     arrivals: &mut Vec<Arrival>,
 ) {
     for &(gives, takes, link) in ways {
-        if gives == region {
-            spread(ways, takes, limit, &[links, &[link]].concat(), arrivals);
+        if gives == arrival.region && !seen.contains(&takes) {
+            let next = Arrival {
+                region: takes,
+                limit: arrival.limit,
+                links: [&arrival.links[..], &[link]].concat(),
+            };
+            spread(ways, &[seen, &[takes]].concat(), next, arrivals);
         }
     }
-    arrivals.push(Arrival {
-        region,
-        limit,
-        links: links.to_vec(),
-    });
+    arrivals.push(arrival);
 }

@@ -1,13 +1,13 @@
 //! One additional link (request 2026-10 of document 02), a second time: limits over every order of every set of regions, the book that
-//! a host keeps and restarts by images of either kind, and readings of the request, one right and others wrong. The compiled functions
-//! do not know the link as yet, and nothing here asks them.
+//! a host keeps and restarts by images of either kind, and readings of the request, one right and others wrong. Nothing here asks the
+//! compiled functions.
 
 use generator::{calls, Random};
 use independent::book::Book;
 use independent::ledger::Entry;
 use independent::rounding::half_away;
 use independent::rules::{Shape, NO_END};
-use independent::{Answer, Call, Kind, Known, Ledger, Opening, Refusal, Report, Values};
+use independent::{Answer, Call, Kind, Ledger, Opening, Refusal, Report, Values};
 
 /// How limits go over links.
 #[derive(Clone, Copy, Debug, PartialEq, Eq)]
@@ -268,7 +268,7 @@ impl Host {
     /// From an image of either kind, into a ring that held something else.
     pub fn load(image: &[u8], ring: usize) -> Result<Host, Refusal> {
         let mut ring = vec![77; ring];
-        let book = Book::load_by(Known::Link, image, &mut ring)?;
+        let book = Book::load(image, &mut ring)?;
         Ok(Host { book, ring })
     }
 

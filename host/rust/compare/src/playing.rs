@@ -5,8 +5,8 @@ use crate::cutting::shortest_calls;
 use crate::hundreds::image_holding;
 use crate::typed::{same, verdict, Difference, Pair};
 use generator::{calls, lists, Random};
-use independent::image::{Fields, HEAD};
-use independent::{Answer, Call, Ledger, Opening, Refusal};
+use independent::image::Fields;
+use independent::{Answer, Call, Kind, Ledger, Opening, Refusal};
 use std::fmt::Write;
 
 /// What a typed list starts from, and the length of its ring.
@@ -116,15 +116,17 @@ impl Playing {
         held.expect("an image of any threshold")
     }
 
-    /// "After L, the same for a report of each region and market", and the image.
+    /// "After L, the same for a report of each region and market", and the image, by either kind that holds it.
     pub fn finish(mut self) -> Pair {
         let shape = *self.ledger.shape();
         for place in 0..shape.prices() {
             let (region, market) = (place / shape.markets(), place % shape.markets());
             self.call(Call::Report(region as u32, market as u32));
         }
-        if self.pair.image() != self.ledger.image() {
-            differs(&self.list, "image after the list");
+        for kind in Kind::ALL.into_iter().filter(|kind| kind.holds(&shape)) {
+            if self.pair.image_by(kind) != self.ledger.image_by(kind) {
+                differs(&self.list, "image after the list");
+            }
         }
         self.pair
     }
@@ -216,7 +218,7 @@ fn described(start: &Start) -> String {
             format!("image {image:02x?}, ring {ring}")
         }
         Start::Image(image, ring) => {
-            let head = Fields::read(&image[..HEAD]);
+            let head = Fields::read(&image[..Kind::Two.head()]);
             format!("image of {} bytes, {head:?}, ring {ring}", image.len())
         }
     }

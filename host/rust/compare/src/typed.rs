@@ -4,7 +4,6 @@ use crate::lent::{Fill, Lent, Memory};
 use guxhamole::{raw, Book, Settings};
 use independent::book::Book as Paper;
 use independent::ledger::Entry;
-use independent::rules::NO_END;
 use independent::{Answer, Call, Kind, Opening, Refusal, Report, Values};
 
 /// What differs, in a few words.
@@ -43,8 +42,8 @@ pub fn paper(book: &raw::Book) -> Paper {
         window: book.window,
         halves: book.halves,
         parents: book.parents,
-        from: NO_END,
-        to: NO_END,
+        from: book.from,
+        to: book.to,
         threshold: book.threshold,
         cap: book.cap,
         floor: book.floor,
@@ -66,6 +65,8 @@ pub fn settings(opening: &Opening) -> Settings {
         halves: opening.halves as u8,
         first: opening.first as u16,
         parents: opening.parents,
+        from: opening.from,
+        to: opening.to,
         threshold: opening.threshold,
         cap: opening.cap,
         floor: opening.floor,
@@ -106,12 +107,17 @@ impl Pair {
         (self.book.raw(), self.ring.slice())
     }
 
-    /// The compiled book's image.
+    /// The compiled book's image by the first kind that holds it.
     pub fn image(&self) -> Vec<u8> {
-        let mut image = vec![0; self.book.stored_length()];
-        match self.book.store(self.ring.slice(), &mut image) {
+        self.image_by(Kind::holding(&self.paper.shape()))
+    }
+
+    /// Its image by a kind that holds it.
+    pub fn image_by(&self, kind: Kind) -> Vec<u8> {
+        let mut image = vec![0; self.book.longest_image()];
+        match store(&self.book, kind, self.ring.slice(), &mut image) {
             Ok(length) => image[..length].to_vec(),
-            Err(refusal) => panic!("a store {refusal}"),
+            Err(refusal) => panic!("a store {refusal:?}"),
         }
     }
 
@@ -232,8 +238,8 @@ impl Pair {
                 )
             }
             Call::Report(region, market) => self.report(*region, *market),
-            Call::Restart(_, buffer_length, ring_length) => {
-                self.restart(*buffer_length, *ring_length)
+            Call::Restart(kind, buffer_length, ring_length) => {
+                self.restart(*kind, *buffer_length, *ring_length)
             }
         }?;
         if answer.number != 0 {
@@ -322,28 +328,31 @@ impl Pair {
         Ok(answer(entered, 0, |count| Values::Entry(count, table)))
     }
 
-    /// A store into a buffer of a length, and a load from exactly the image's bytes into another ring of a length.
-    fn restart(&mut self, buffer: usize, ring_length: usize) -> Result<Answer, Difference> {
+    /// A store by a kind into a buffer of a length, and a load from exactly the image's bytes into another ring of a length.
+    fn restart(
+        &mut self,
+        kind: Kind,
+        buffer: usize,
+        ring_length: usize,
+    ) -> Result<Answer, Difference> {
         let mut image = self.memory.lend(buffer);
         let mut paper_image = image.slice().to_vec();
-        let stored = told(self.book.store(self.ring.slice(), image.slice_mut()));
-        let expected = self
-            .paper
-            .store(Kind::One, &self.paper_ring, &mut paper_image);
+        let stored = store(&self.book, kind, self.ring.slice(), image.slice_mut());
+        let expected = self.paper.store(kind, &self.paper_ring, &mut paper_image);
         same(stored == expected, "store's answer")?;
         same(image.holds(&paper_image), "image")?;
         same(self.ring.guarded(), "memory beside the stored ring")?;
         let length = match stored {
             Ok(length) => length,
             Err(refusal) => {
-                let again = raw::store(*self.book.raw(), self.ring.slice(), image.slice_mut());
+                let again = raw_store(&self.book, kind, self.ring.slice(), image.slice_mut());
                 let (number, length) = (refusal.number, 0);
                 same(again == raw::Stored { number, length }, "store's zeros")?;
                 same(image.holds(&paper_image), "image after a refused store")?;
                 return Ok(answer(Err(refusal), (), |()| Values::Nothing));
             }
         };
-        same(length == self.book.stored_length(), "image's length")?;
+        same(length == stored_length(&self.book, kind), "image's length")?;
         let memory = self.memory.clone();
         let loaded = Pair::load_in(memory, &image.slice()[..length], ring_length)?;
         let loaded = loaded.map(|pair| {
@@ -356,6 +365,30 @@ impl Pair {
     }
 }
 
+/// The image by a kind through the crate.
+pub fn store(book: &Book, kind: Kind, ring: &[i32], image: &mut [u8]) -> Result<usize, Refusal> {
+    told(match kind {
+        Kind::One => book.store_kind_1(ring, image),
+        Kind::Two => book.store(ring, image),
+    })
+}
+
+/// The same by the C face.
+pub fn raw_store(book: &Book, kind: Kind, ring: &[i32], image: &mut [u8]) -> raw::Stored {
+    match kind {
+        Kind::One => raw::store(*book.raw(), ring, image),
+        Kind::Two => raw::store_kind_2(*book.raw(), ring, image),
+    }
+}
+
+/// The length of the image by a kind, as the crate says it.
+pub fn stored_length(book: &Book, kind: Kind) -> usize {
+    match kind {
+        Kind::One => book.stored_length_kind_1(),
+        Kind::Two => book.stored_length(),
+    }
+}
+
 fn raw_settings(opening: &Opening) -> raw::Settings {
     let settings = settings(opening);
     raw::Settings {
@@ -365,6 +398,8 @@ fn raw_settings(opening: &Opening) -> raw::Settings {
         halves: settings.halves,
         first: settings.first,
         parents: settings.parents,
+        from: settings.from,
+        to: settings.to,
         threshold: settings.threshold,
         cap: settings.cap,
         floor: settings.floor,

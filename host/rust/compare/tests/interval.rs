@@ -1,6 +1,8 @@
 //! "One interval" against "The ledger machine": document 01 words the book twice. Here the first wording, with running
-//! windows, period marks from step to step and limits by two sweeps over the tree, is held to the ledger.
+//! windows, period marks from step to step and limits by two sweeps over the tree, is held to the ledger; where an additional link may
+//! close a ring, limits go over every candidate route instead.
 
+use compare::links::{routes, Energy, Reading};
 use compare::{rounds, say};
 use generator::{calls, images, Random};
 use independent::ledger::Entry;
@@ -64,8 +66,9 @@ impl Running {
         effective
     }
 
-    /// Steps 1 to 6 of an entry that is accepted: the table and the count of changed prices.
-    fn enter(&mut self, entry: &Entry) -> (Vec<i32>, u32) {
+    /// Steps 1 to 6 of an entry that is accepted: the table and the count of changed prices. Energy that was worked out over routes takes
+    /// the place of what the sweeps would make of it.
+    fn enter(&mut self, entry: &Entry, by_routes: Option<Vec<i128>>) -> (Vec<i32>, u32) {
         let (cap, floor) = (i64::from(self.settings.cap), i64::from(self.settings.floor));
         let (regions, markets) = (self.shape.regions, self.shape.markets());
         let effective = self.effective(entry);
@@ -90,9 +93,12 @@ impl Running {
         for region in 0..regions {
             let energy = &mut table[region * markets];
             let cents = |limit: Option<i64>| limit.map_or(i64::MAX, |units| divide(units, CENT));
-            *energy = (*energy)
-                .min(cents(caps[region]))
-                .max(-cents(floors[region]));
+            *energy = match &by_routes {
+                Some(energies) => energies[region] as i64,
+                None => (*energy)
+                    .min(cents(caps[region]))
+                    .max(-cents(floors[region])),
+            };
         }
         self.join_windows(entry);
         let changed = table
@@ -171,9 +177,22 @@ impl Running {
     }
 }
 
+/// The energy prices of an accepted call's entry, if the book has an additional link.
+fn by_routes(ledger: &Ledger, call: &Call, candidates: &[Vec<Vec<usize>>]) -> Option<Vec<i128>> {
+    let shape = ledger.shape();
+    match call {
+        Call::Entry(entry, ..) if shape.link.is_some() => {
+            let routes = &candidates[shape.regions];
+            Some(Energy::of(ledger, entry).published(Reading::Right, entry, routes))
+        }
+        _ => None,
+    }
+}
+
 #[test]
 fn one_interval_is_the_ledger_machine() {
-    let (mut entries, mut changed, mut linked) = (0u64, 0u64, 0u64);
+    let candidates: Vec<_> = (0..=8).map(routes).collect();
+    let (mut entries, mut changed, mut linked, mut ringed) = (0u64, 0u64, 0u64, 0u64);
     let (mut begun, mut ended) = (0u64, 0u64);
     for round in 0..rounds() {
         let mut random = Random::new(0xA_0000 + round);
@@ -182,14 +201,17 @@ fn one_interval_is_the_ledger_machine() {
             let mut running = Running::new(&ledger);
             for _ in 0..random.between(1, 50) {
                 let call = calls::call(&mut random, &ledger);
+                let before = ledger.clone();
                 let answer = ledger.call(&call);
                 if answer.number != 0 {
                     continue;
                 }
                 match (&call, answer.values) {
                     (Call::Entry(entry, _, _), Values::Entry(count, table)) => {
+                        let by_routes = by_routes(&before, &call, &candidates);
                         let before = running.marks.clone();
-                        assert_eq!(running.enter(entry), (table, count), "{entry:?}");
+                        ringed += u64::from(by_routes.is_some() && count > 0);
+                        assert_eq!(running.enter(entry, by_routes), (table, count), "{entry:?}");
                         entries += 1;
                         changed += u64::from(count > 0);
                         linked += u64::from(entry.flows.iter().any(|&flow| flow != 0) && count > 0);
@@ -209,7 +231,7 @@ fn one_interval_is_the_ledger_machine() {
         }
     }
     say(&format!(
-        "interval: {entries} entries, {changed} with changed prices ({linked} with flows), {begun} periods begun, {ended} ended"
+        "interval: {entries} entries, {changed} with changed prices ({linked} with flows, {ringed} with an additional link), {begun} periods begun, {ended} ended"
     ));
-    assert!(changed >= 2_000 && begun >= 2_000 && ended >= 2_000);
+    assert!(changed >= 2_000 && ringed >= 1_000 && begun >= 2_000 && ended >= 2_000);
 }

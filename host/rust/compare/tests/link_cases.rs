@@ -1,12 +1,14 @@
-//! One additional link (request 2026-10 of document 02) by the independent ledger and book: cases worked by hand of limits, ends, lengths,
-//! images and records, each with its answer. The compiled functions do not know the link as yet.
+//! One additional link (request 2026-10 of document 02) by the compiled functions and by the independent ledger and book: cases worked by
+//! hand of limits, ends, lengths, images and records, each with its answer.
 
 use compare::books::{self, plain, take_plain};
+use compare::intervals::compiled;
 use compare::links::Host;
-use independent::book::LINK_FAULT;
+use compare::typed::{self, Pair};
+use guxhamole::raw;
 use independent::image::{self, Fields};
 use independent::ledger::Entry;
-use independent::{Call, Kind, Known, Ledger, Opening, Values};
+use independent::{Call, Kind, Ledger, Opening, Values};
 
 /// R 3, parents 255, 0, 1, S 0, W 1, H 1, threshold 95,000, limits ±60,000, with a link.
 fn guide(from: u8, to: u8) -> Opening {
@@ -31,6 +33,12 @@ fn host(ledger: &Ledger) -> Host {
     Host::load(&ledger.image(), ledger.shape().ring()).expect("a valid image")
 }
 
+/// The compiled book that it loads to, and beside it the independent one.
+fn pair(ledger: &Ledger) -> Pair {
+    let loaded = Pair::load(&ledger.image(), ledger.shape().ring());
+    loaded.expect("no difference").expect("a valid image")
+}
+
 /// Entry 1 with these prices, flows and factors.
 fn second(ledger: &Ledger, prices: &[i32], flows: &[i32], factors: &[u32]) -> Entry {
     Entry {
@@ -40,7 +48,7 @@ fn second(ledger: &Ledger, prices: &[i32], flows: &[i32], factors: &[u32]) -> En
     }
 }
 
-/// What entry 1 answers: number, place, count and table, the same by the ledger, a cached one and the book.
+/// What entry 1 answers: number, place, count and table, the same by the ledger, a cached one, the book and the compiled one.
 fn entered(
     settings: &Opening,
     prices: &[i32],
@@ -52,8 +60,9 @@ fn entered(
     let call = Call::Entry(entry, ledger.shape().ring(), vec![7; prices.len()]);
     let cached = ledger.clone().cached().call(&call);
     let kept = host(&ledger).call(&call);
+    let compiled = pair(&ledger).call(&call).expect("no difference");
     let answer = ledger.call(&call);
-    assert_eq!((&answer, &answer), (&cached, &kept));
+    assert_eq!([&cached, &kept, &compiled], [&answer; 3]);
     let Values::Entry(count, table) = answer.values else {
         panic!("an entry's values");
     };
@@ -95,7 +104,7 @@ fn two_routes() {
     assert_eq!(long, [60_000, 54_545, 49_587]);
 }
 
-/// With the flow the other way, or none, the direct route carries nothing to C.
+/// With the flow the other way, or none, the direct route carries nothing to C, whose limit over it would bind.
 #[test]
 fn against_the_flow() {
     for flow in [-1, 0, i32::MIN] {
@@ -103,9 +112,9 @@ fn against_the_flow() {
             &guide(2, 0),
             &PRICES,
             &[0, 1, 1, flow],
-            &[0, 11_000, 11_000, 11_000],
+            &[0, 10_100, 10_100, 13_000],
         );
-        assert_eq!(table, [60_000, 54_545, 49_587]);
+        assert_eq!(table, [60_000, 59_406, 58_818]);
     }
 }
 
@@ -151,7 +160,10 @@ fn opened(from: u8, to: u8) -> u32 {
     };
     let number = Ledger::open(&opening, 3).map_or_else(|refusal| refusal.number, |_| 0);
     let image = Fields::blank(&opening).bytes_by(Kind::Two);
-    let loaded = image::check_by(Known::Link, &image);
+    let loaded = image::check(&image);
+    assert_eq!(raw::image_check(&image), loaded);
+    let opened = Pair::open(&opening, 3).expect("no difference");
+    assert_eq!(opened.map_or_else(|refusal| refusal.number, |_| 0), number);
     let mut book = Host::open(&Opening {
         from: 255,
         to: 255,
@@ -160,9 +172,10 @@ fn opened(from: u8, to: u8) -> u32 {
     .book;
     (book.from, book.to) = (from, to);
     let fault = book.fault();
+    let reported = raw::report(compiled(&book), 0, 0).number;
     match number {
-        0 => assert_eq!((loaded, fault), (0, None)),
-        _ => assert_eq!((loaded, fault), (26, Some(LINK_FAULT))),
+        0 => assert_eq!((loaded, fault, reported), (0, None, 0)),
+        _ => assert_eq!((loaded, fault, reported), (26, Some("ends"), 10)),
     }
     number
 }
@@ -192,6 +205,7 @@ fn ends() {
         ..guide(1, 2)
     };
     assert!(Ledger::open(&fork, 3).is_ok());
+    assert!(Pair::open(&fork, 3).expect("no difference").is_ok());
 }
 
 /// 17 of the link's factor comes last, whatever its flow and marks; R flows or factors are 11.
@@ -245,6 +259,10 @@ fn stores() {
         let stored = host.store(kind, room).map(|image| image.len());
         let mut buffer = vec![0; room];
         assert_eq!(ledger.store(kind, &mut buffer), stored);
+        let (kept, mut image) = (pair(&ledger), vec![0; room]);
+        let book = guxhamole::Book::from_raw(*kept.kept().0);
+        assert_eq!(typed::store(&book, kind, kept.kept().1, &mut image), stored);
+        assert_eq!(image, buffer);
         stored.map_err(|refusal| refusal.number)
     };
     assert_eq!(number(Kind::One, 1_000), Err(47));
@@ -257,10 +275,10 @@ fn stores() {
     assert_eq!(image[148..156], [0, 2, 0, 0, 255, 255, 255, 255]);
     assert_eq!(image[156..], [[160, 134, 1, 0], [0; 4], [0; 4]].concat());
     let restart = |kind, buffer, ring| {
-        ledger
-            .clone()
-            .call(&Call::Restart(kind, buffer, ring))
-            .number
+        let call = Call::Restart(kind, buffer, ring);
+        let answer = ledger.clone().call(&call);
+        assert_eq!(pair(&ledger).call(&call).as_ref(), Ok(&answer));
+        answer.number
     };
     assert_eq!(restart(Kind::One, 0, 0), 47);
     assert_eq!(restart(Kind::Two, 167, 0), 23);
@@ -276,9 +294,12 @@ fn checked(image: &[u8], length: usize, changes: &[(usize, u8)]) -> u32 {
         image[place] = byte;
     }
     let loaded = Host::load(&image, 3).map_or_else(|refusal| refusal.number, |_| 0);
-    assert_eq!(image::check_by(Known::Link, &image), loaded);
-    let before = image::check_by(Known::NoLink, &image);
-    assert_eq!(before, if image[4] == 1 { loaded } else { 25 });
+    assert_eq!(
+        [image::check(&image), raw::image_check(&image)],
+        [loaded; 2]
+    );
+    let pair = Pair::load(&image, 3).expect("no difference");
+    assert_eq!(pair.map_or_else(|refusal| refusal.number, |_| 0), loaded);
     loaded
 }
 
@@ -327,4 +348,13 @@ fn without_the_link() {
     assert_eq!(from_one, from_two);
     assert_eq!((from_two.book.from, from_two.book.to), (255, 255));
     assert_eq!(from_two.store(Kind::One, 160).as_ref(), Ok(&one));
+    let [by_one, by_two] = [&one, &two].map(|image| {
+        let loaded = Pair::load(image, 3).expect("no difference");
+        loaded.expect("a valid image")
+    });
+    assert_eq!(by_one.kept(), by_two.kept());
+    assert_eq!(
+        [by_one.image_by(Kind::Two), by_two.image_by(Kind::One)],
+        [two, one]
+    );
 }

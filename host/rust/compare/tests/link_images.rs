@@ -1,11 +1,15 @@
-//! Images of kind 2 (request 2026-10 of document 02) by the independent code alone: stored and loaded against kind 1 with eight bytes put
-//! in or taken out, whole and damaged, with both round trips; and wrong stores and loads, each told apart many times.
+//! Images of kind 2 (request 2026-10 of document 02) by the independent code and by the compiled functions: stored and loaded against kind
+//! 1 with eight bytes put in or taken out, whole and damaged, with both round trips; and wrong stores and loads, each told apart many times.
 
+use compare::intervals::compiled;
+use compare::lent::Lent;
 use compare::links::{opening, Host, ROOM};
 use compare::say;
+use compare::typed::{self, Pair};
 use generator::{calls, images, Random};
-use independent::image::{self, Fields, LINK_FAULTS};
-use independent::{Kind, Known};
+use guxhamole::raw;
+use independent::image::{self, Fields};
+use independent::{Kind, Refusal};
 use std::collections::BTreeMap;
 
 /// Where the eight bytes of kind 2 stand.
@@ -91,7 +95,9 @@ fn stores() {
             length,
             length + 7,
         ]);
-        let right = host.store(kind, room).map_err(|refusal| refusal.number);
+        let right = host.store(kind, room);
+        compiled_stores(&host, kind, room, &right);
+        let right = right.map_err(|refusal| refusal.number);
         assert_eq!(stored(&host, kind, room, ""), right, "{host:?}");
         *met.entry((kind, right.as_ref().err().copied().unwrap_or(0)))
             .or_insert(0) += 1;
@@ -106,7 +112,29 @@ fn stores() {
     assert!(told.values().all(|&times| times > 100));
 }
 
-/// A stored image loads to the same book, its windows turned to their start, and stores to the same bytes, by every kind that holds it.
+/// The compiled store answers the same, by the crate and by the C face, writes the same image and nothing behind it.
+fn compiled_stores(host: &Host, kind: Kind, room: usize, right: &Result<Vec<u8>, Refusal>) {
+    let book = guxhamole::Book::from_raw(compiled(&host.book));
+    let image = right.as_deref().unwrap_or_default();
+    let length = right.as_ref().map(Vec::len).map_err(|refusal| *refusal);
+    let mut lent = Lent::filled(room);
+    let stored = typed::store(&book, kind, &host.ring, lent.slice_mut());
+    assert_eq!(stored, length, "{host:?}");
+    assert!(lent.holds(image), "{host:?}");
+    let mut lent = Lent::filled(room);
+    let answer = raw::Stored {
+        number: length.err().map_or(0, |refusal| refusal.number),
+        length: image.len() as u64,
+    };
+    assert_eq!(
+        typed::raw_store(&book, kind, &host.ring, lent.slice_mut()),
+        answer
+    );
+    assert!(lent.holds(image), "{host:?}");
+}
+
+/// A stored image loads to the same book, its windows turned to their start, and stores to the same bytes, by every kind that holds it;
+/// so does the compiled one.
 fn round_trips(host: &Host) {
     let shape = host.book.shape();
     for kind in Kind::ALL.into_iter().filter(|kind| kind.holds(&shape)) {
@@ -114,17 +142,32 @@ fn round_trips(host: &Host) {
         let again = Host::load(&image, shape.ring()).expect("a stored image");
         assert_eq!(again.book.sums, host.book.sums);
         assert_eq!(again.book.shape(), shape);
+        let pair = Pair::load(&image, shape.ring()).expect("no difference");
+        let pair = pair.expect("a stored image");
         for other in Kind::ALL.into_iter().filter(|kind| kind.holds(&shape)) {
             assert_eq!(again.store(other, ROOM), host.store(other, ROOM));
+            assert_eq!(Ok(pair.image_by(other)), host.store(other, ROOM));
         }
     }
 }
 
+fn named_two(bytes: &[u8]) -> bool {
+    bytes.len() > 5 && bytes[4..6] == [2, 0]
+}
+
+/// What a load that knows kind 1 alone answers, its 11 aside: kind 2 is to it what kind 3 is.
+fn by_kind_1(bytes: &[u8]) -> u32 {
+    let mut bytes = bytes.to_vec();
+    if named_two(&bytes) {
+        bytes[4] = 3;
+    }
+    image::check(&bytes)
+}
+
 /// What a load answers to bytes, its 11 aside.
 fn checked(bytes: &[u8], wrong: &str) -> u32 {
-    let number = image::check_by(Known::NoLink, bytes);
-    let named_two = bytes.len() > 5 && bytes[4..6] == [2, 0];
-    if number != 25 || !named_two || wrong == "kind 2 is unknown" {
+    let number = by_kind_1(bytes);
+    if number != 25 || !named_two(bytes) || wrong == "kind 2 is unknown" {
         return number;
     }
     if bytes.len() < 156 {
@@ -138,7 +181,7 @@ fn checked(bytes: &[u8], wrong: &str) -> u32 {
     let mut one = [&bytes[..NEW], &bytes[from..]].concat();
     images::mend_length(&mut one);
     one[4] = 1;
-    let number = image::check_by(Known::NoLink, &one);
+    let number = by_kind_1(&one);
     match number {
         26 => 26,
         _ if new_fault(bytes, wrong) => 26,
@@ -187,16 +230,15 @@ fn loads() {
     let mut faults = BTreeMap::new();
     for _ in 0..40_000 {
         let host = host(&mut random);
-        let mut image = host
-            .store(Kind::holding(&host.book.shape()), ROOM)
-            .expect("room");
+        let kind = calls::image_kind(&mut random, &host.book.shape());
+        let mut image = host.store(kind, ROOM).expect("room");
         if random.chance(90) {
             image = images::damaged_link(&mut random, &image);
         }
         if random.chance(25) {
             image = images::damaged(&mut random, &image);
         }
-        let number = image::check_by(Known::Link, &image);
+        let number = image::check(&image);
         assert_eq!(checked(&image, ""), number, "{image:?}");
         *met.entry(number).or_insert(0) += 1;
         let fault = (number == 26).then(|| image::head_fault(&image)).flatten();
@@ -216,22 +258,27 @@ fn loads() {
         "{met:?}"
     );
     assert!(
-        LINK_FAULTS.iter().all(|fault| faults[fault] > 100),
+        ["ends", "bytes 150 and 151", "bytes 152 to 155"]
+            .iter()
+            .all(|fault| faults[fault] > 100),
         "{faults:?}"
     );
     assert!(told.values().all(|&times| times > 50), "{told:?}");
 }
 
-/// An image that loads stores to the same bytes by its own kind; another doesn't load.
+/// An image that loads stores to the same bytes by its own kind; another doesn't load. The compiled check and load answer the same.
 fn loaded(image: &[u8], number: u32) {
+    assert_eq!(raw::image_check(image), number, "{image:?}");
     let ring = match number {
         0 => Fields::read(image).shape().ring(),
         _ => 0,
     };
+    let pair = Pair::load(image, ring).unwrap_or_else(|what| panic!("{what}: {image:?}"));
     match Host::load(image, ring) {
         Ok(host) => {
             let kind = if image[4] == 1 { Kind::One } else { Kind::Two };
             assert_eq!(host.store(kind, image.len()).as_deref(), Ok(image));
+            assert_eq!(pair.expect("what loads").image_by(kind), image);
         }
         Err(refusal) if refusal.number == 11 => assert_eq!(number, 16),
         Err(refusal) => assert_eq!(refusal.number, number),

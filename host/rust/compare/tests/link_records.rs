@@ -1,15 +1,15 @@
 //! Interval records with an additional link (kind 18, request 2026-10 of document 02), its test load and its bills, by the independent
-//! code alone: readers against those of the same book without the link and a record behind, round trips of writer, reader and rewriter,
-//! and wrong readers, each told apart many times.
+//! code and the compiled functions: readers against those of the same book without the link and a record behind, round trips of writer,
+//! reader and rewriter, and wrong readers, each told apart many times.
 
 use compare::links::opening;
-use compare::say;
+use compare::{bills as billing, intervals as recorded, rewriting as rewritten, say, synthetic};
 use generator::bills::{self, Day, Kept};
 use generator::{calls, draws, intervals, Random};
 use independent::bill::Judgement;
 use independent::book::Book;
 use independent::interval::Interval;
-use independent::{Known, Ledger, Opening, Refusal};
+use independent::{Ledger, Opening, Refusal};
 use std::collections::BTreeMap;
 
 /// A book as it is opened; of any eight regions.
@@ -80,8 +80,8 @@ fn read(book: &Book, earlier: bool, bytes: &[u8], at: usize, wrong: &str) -> Rea
     let plain = without(book);
     let mut interval = intervals::fitting(&plain.shape());
     let read = match earlier {
-        true => plain.read_earlier_by(Known::Link, bytes, at, &mut interval),
-        false => plain.read_interval_by(Known::Link, bytes, at, &mut interval),
+        true => plain.read_earlier(bytes, at, &mut interval),
+        false => plain.read_interval(bytes, at, &mut interval),
     };
     let next = read.map_err(number)?;
     if book.from == 255 || wrong == "no link's record" {
@@ -113,14 +113,15 @@ impl Met {
         *self.answers.entry((call, number)).or_default() += 1;
     }
 
-    /// Both readers and the rewriter about the same bytes.
+    /// Both readers and the rewriter about the same bytes, and the compiled reader and rewriter.
     fn reading(&mut self, random: &mut Random, reading: &intervals::Reading) {
         let (book, at) = (&reading.book, reading.at);
+        let _ = recorded::read(reading);
         for earlier in [false, true] {
             let mut lent = reading.lent.clone();
             let answer = match earlier {
-                true => book.read_earlier_by(Known::Link, &reading.records, at, &mut lent),
-                false => book.read_interval_by(Known::Link, &reading.records, at, &mut lent),
+                true => book.read_earlier(&reading.records, at, &mut lent),
+                false => book.read_interval(&reading.records, at, &mut lent),
             };
             let answer = answer.map(|next| (lent.clone(), next)).map_err(number);
             self.note(if earlier { "earlier" } else { "read" }, &answer);
@@ -147,8 +148,9 @@ impl Met {
         let intervals::Rewriting {
             book, records, at, ..
         } = rewriting;
+        let _ = rewritten::rewrite(rewriting);
         let mut buffer = vec![77; rewriting.buffer];
-        let answer = book.rewrite_interval_by(Known::Link, records, *at, &mut buffer);
+        let answer = book.rewrite_interval(records, *at, &mut buffer);
         let answer = answer.map_err(number);
         self.note("rewrite", &answer);
         let mut expected = vec![77; rewriting.buffer];
@@ -215,10 +217,16 @@ fn round_trips() {
         assert_eq!(buffer, records);
         let short = book.write_interval(&interval, &mut buffer[1..]);
         assert_eq!(short.map_err(number), Err(23));
+        let writing = intervals::Writing {
+            book: book.clone(),
+            interval: interval.clone(),
+            buffer: records.len(),
+        };
+        assert_eq!(recorded::write(&writing).as_ref(), Ok(&records));
         let order = intervals::any_order(&mut random, regions);
         let other = intervals::records(&interval, markets, &order);
         let mut rewritten = vec![0; records.len()];
-        let next = book.rewrite_interval_by(Known::Link, &other, 0, &mut rewritten);
+        let next = book.rewrite_interval(&other, 0, &mut rewritten);
         assert_eq!((next, &rewritten), (Ok(records.len()), &records));
         assert_eq!(
             read(&book, false, &records, 0, ""),
@@ -232,7 +240,7 @@ fn round_trips() {
     assert!(linked > 3_000);
 }
 
-/// 18 is a known kind in every book: another length than 14 is 40, before 41; one that knows no link says 41 to both.
+/// 18 is a known kind in every book: another length than 14 is 40, before 41.
 #[test]
 fn met_elsewhere() {
     let mut random = Random::new(41);
@@ -252,11 +260,17 @@ fn met_elsewhere() {
                 let mut link = vec![length, 0, 0, 0, 18, 0];
                 link.resize(length.into(), 0);
                 let bytes = [&records[..place], &link, &records[place..]].concat();
-                let mut lent = intervals::fitting(&book.shape());
-                let by = |known, lent: &mut Interval| book.read_interval_by(known, &bytes, 0, lent);
-                assert_eq!(by(Known::Link, &mut lent).map_err(number), Err(refused));
-                let before = by(Known::NoLink, &mut lent).map_err(number);
-                assert_eq!(before, Err(if book.from == 255 { 41 } else { refused }));
+                let reading = intervals::Reading {
+                    lent: intervals::fitting(&book.shape()),
+                    book: book.clone(),
+                    records: bytes,
+                    at: 0,
+                };
+                let read = recorded::read(&reading).map_err(number);
+                assert_eq!(read.map(|read| read.next), Err(refused));
+                let room = intervals::rewriting_into(&reading, intervals::length(&book));
+                let rewritten = rewritten::rewrite(&room).map_err(number);
+                assert_eq!(rewritten.map(|done| done.next), Err(refused));
             }
         }
     }
@@ -270,9 +284,14 @@ fn test_loads() {
     for _ in 0..20_000 {
         let book = book(&mut random);
         let (plain, seed) = (without(&book), draws::seed(&mut random, &book));
-        let mut drawn = intervals::fitting(&book.shape());
         let mut expected = intervals::fitting(&plain.shape());
-        let last = book.synthetic(seed, &mut drawn).expect("slices that fit");
+        let drawing = draws::Drawing {
+            lent: intervals::fitting(&book.shape()),
+            book,
+            seed,
+        };
+        let by_both = synthetic::draw(&drawing).expect("slices that fit");
+        let (last, drawn, book) = (by_both.seed, by_both.interval, drawing.book);
         let mut s = plain
             .synthetic(seed, &mut expected)
             .expect("slices that fit");
@@ -326,20 +345,10 @@ fn judged_bills() {
         .all(|&kind| met[kind] > 5));
 }
 
-/// What the book answers, and the ledger too where it led there.
+/// What the books answer, the compiled one too, and the ledger where it led there.
 fn judged(day: &Day, checking: &bills::Checking) -> Result<Judgement, Refusal> {
-    let bills::Checking {
-        book, ring, bill, ..
-    } = checking;
-    let mut work = checking.work.clone();
-    let answer = book.check_bill_by(Known::Link, ring, &mut work, bill);
-    if checking.listed {
-        let lengths = (ring.len(), work.len());
-        let (expected, _) = day
-            .kept
-            .ledger
-            .check_bill_by(Known::Link, lengths.0, lengths.1, bill);
-        assert_eq!(answer, expected);
+    match checking.listed {
+        true => billing::check_listed(&day.kept.ledger, checking),
+        false => billing::check(checking),
     }
-    answer
 }

@@ -193,6 +193,8 @@ impl Damage {
     fn numbers(self) -> [u32; 2] {
         match self {
             Damage::Length(_) => [40; 2],
+            // Known in every book, and of 14 bytes.
+            Damage::Kind(18) => [40; 2],
             Damage::Kind(_) => [41; 2],
             Damage::Byte(_, rewriter, reader) => [rewriter, reader],
         }
@@ -254,7 +256,7 @@ fn refused(met: &mut Met, reading: &Reading, rewriter: u32, reader: u32) {
 /// have any length from 6 on. A reader stops before them at a region that isn't the next.
 fn first_of(one: (usize, Damage), two: (usize, Damage), order: &[usize]) -> [u32; 2] {
     let [mut rewriter, mut reader] = match (one.1, two.1) {
-        (Damage::Length(6..), Damage::Kind(_)) if one.0 == two.0 => [41; 2],
+        (Damage::Length(6..), Damage::Kind(kind)) if one.0 == two.0 && kind != 18 => [41; 2],
         _ => one.1.numbers(),
     };
     if one.0 == two.0 {

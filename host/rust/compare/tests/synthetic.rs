@@ -55,14 +55,14 @@ impl Met {
 
 /// Slices of a book's lengths that hold none of what is drawn, and a number and a day kind.
 fn lent(book: &Book, number: u32, kind: u8) -> Interval {
-    let regions = usize::from(book.regions);
+    let shape = book.shape();
     Interval {
         number,
         kind,
-        prices: vec![-77_777; regions * (usize::from(book.services) + 1)],
-        marks: vec![7; regions],
-        flows: vec![7_777; regions],
-        factors: vec![7; regions],
+        prices: vec![-77_777; shape.prices()],
+        marks: vec![7; shape.regions],
+        flows: vec![7_777; shape.flows()],
+        factors: vec![7; shape.flows()],
     }
 }
 
@@ -213,19 +213,19 @@ fn left_and_due(book: &Book, interval: &Interval, at: usize, d: u16) -> (i64, i6
     }
 }
 
-/// Every size; every draw of an interval gives every number about which a rule turns, from seeds found by going backwards.
+/// Every size, in a chain and in a ring; every draw of an interval gives every number about which a rule turns, from seeds found by going backwards.
 #[test]
 fn every_size_and_draw() {
     let mut met = Met::default();
-    for (regions, services) in sizes() {
-        let book = books::chained(regions, services);
-        for at in 0..draws(&book) {
-            for (d, lower) in turns() {
-                let seed = seed_of(at, d, lower);
-                let drawn = met.draw(&drawing(&book, seed)).expect("an accepted draw");
-                let (left, due) = left_and_due(&book, &drawn.interval, at, d);
-                assert_eq!(left, due, "R {regions}, S {services}, draw {at}, d {d}");
-            }
+    let books =
+        sizes().flat_map(|(regions, services)| books::chained_and_ringed(regions, services));
+    for book in books {
+        for (at, (d, lower)) in (0..draws(&book)).flat_map(|at| turns().map(move |turn| (at, turn)))
+        {
+            let seed = seed_of(at, d, lower);
+            let drawn = met.draw(&drawing(&book, seed)).expect("an accepted draw");
+            let (left, due) = left_and_due(&book, &drawn.interval, at, d);
+            assert_eq!(left, due, "{book:?}, draw {at}, d {d}");
         }
     }
     met.say("every size and draw");
@@ -281,8 +281,11 @@ fn generated() {
 /// Whether the lent slices have a book's lengths.
 fn fits(drawing: &Drawing) -> bool {
     let (right, lent) = (lent(&drawing.book, 0, 0), &drawing.lent);
-    let others = [lent.marks.len(), lent.flows.len(), lent.factors.len()];
-    lent.prices.len() == right.prices.len() && others == [right.marks.len(); 3]
+    let lengths = |of: &Interval| {
+        let links = [of.flows.len(), of.factors.len()];
+        (of.prices.len(), of.marks.len(), links)
+    };
+    lengths(lent) == lengths(&right)
 }
 
 /// The sizes on which every set of misfits and every length are tried: the least, the real market's, the most, and two between.
@@ -299,8 +302,10 @@ fn every_set_of_misfits() {
         |right| right + 1,
         |right| 2 * right,
     ];
-    for (regions, services) in SIZES {
-        let book = books::chained(regions, services);
+    let books = SIZES
+        .into_iter()
+        .flat_map(|(regions, services)| books::chained_and_ringed(regions, services));
+    for book in books {
         let whole = drawing(&book, seed_of(0, 63, 0));
         for (set, length) in (0..16).flat_map(|set| lengths.map(|length| (set, length))) {
             let mut lent = whole.lent.clone();
@@ -322,7 +327,8 @@ fn every_set_of_misfits() {
 fn right(whole: &Drawing, slice: usize) -> usize {
     match slice {
         0 => whole.lent.prices.len(),
-        _ => whole.lent.marks.len(),
+        1 => whole.lent.marks.len(),
+        _ => whole.lent.flows.len(),
     }
 }
 

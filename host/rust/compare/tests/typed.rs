@@ -111,7 +111,7 @@ fn generated_lists() {
     met.at_least("threshold", &[0, 18, 44], 300);
     met.at_least("limits", &[0, 19], 300);
     met.at_least("report", &[0, 21], 300);
-    met.at_least("restart", &[0, 11, 23], 300);
+    met.at_least("restart", &[0, 11, 23, 47], 300);
     for number in [10, 22] {
         assert!(
             met.answers.keys().all(|(_, met)| *met != number),

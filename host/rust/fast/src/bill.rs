@@ -1,7 +1,7 @@
 //! A retailer's bill, request 2026-09 of document 02: one pass over the day's records and the lines beside them. Quotations are document
 //! 02's.
 
-use crate::book::{unless, Book, Refusal, MARKETS, REGIONS};
+use crate::book::{unless, Book, Refusal, LINKS, MARKETS, REGIONS};
 use crate::entry::Entry;
 use crate::interval::IntervalMut;
 
@@ -112,17 +112,17 @@ impl Book {
         energy: usize,
         lines: &Lines,
     ) -> Result<Played, Refusal> {
-        let (regions, places) = (usize::from(self.regions), self.prices());
+        let (regions, places, links) = (usize::from(self.regions), self.prices(), self.links());
         let (mut prices, mut table) = ([0; REGIONS * MARKETS], [0; REGIONS * MARKETS]);
-        let (mut marks, mut flows, mut factors) = ([0; REGIONS], [0; REGIONS], [0; REGIONS]);
+        let (mut marks, mut flows, mut factors) = ([0; REGIONS], [0; LINKS], [0; LINKS]);
         let (mut at, mut intervals, mut wrong) = (0, 0, None);
         while at < records.len() {
             unless(intervals == 0 || self.markets_valid(), 10)?;
             let interval = IntervalMut {
                 prices: &mut prices[..places],
                 marks: &mut marks[..regions],
-                flows: &mut flows[..regions],
-                factors: &mut factors[..regions],
+                flows: &mut flows[..links],
+                factors: &mut factors[..links],
             };
             let found = self.read_lent(records, at, interval)?;
             let entry = Entry {
@@ -130,8 +130,8 @@ impl Book {
                 kind: found.kind,
                 prices: &prices[..places],
                 marks: &marks[..regions],
-                flows: &flows[..regions],
-                factors: &factors[..regions],
+                flows: &flows[..links],
+                factors: &factors[..links],
                 schedule,
             };
             self.enter_lent(ring, &entry, &mut table[..places])?;

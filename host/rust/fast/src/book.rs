@@ -13,6 +13,12 @@ pub const MOST_PRICE: i32 = 10_000_000;
 /// "255 for none"
 pub const NO_PARENT: u8 = 255;
 
+/// "(255, 255 for none)": of the additional link (request 2026-10 of document 02).
+pub const NO_END: u8 = 255;
+
+/// The most flows, and factors: those of eight regions and the additional link.
+pub const LINKS: usize = REGIONS + 1;
+
 /// "a sum beyond ±20,160,000,000"
 const MOST_SUM: i64 = 20_160_000_000;
 
@@ -42,6 +48,8 @@ pub struct Opening {
     pub halves: u8,
     pub first: u16,
     pub parents: [u8; REGIONS],
+    pub from: u8,
+    pub to: u8,
     pub threshold: i64,
     pub cap: i32,
     pub floor: i32,
@@ -64,6 +72,8 @@ pub struct Book {
     pub window: u16,
     pub halves: u8,
     pub parents: [u8; REGIONS],
+    pub from: u8,
+    pub to: u8,
     pub entries: u32,
     pub position: u16,
     pub threshold: i64,
@@ -83,6 +93,8 @@ impl Book {
         window: 0,
         halves: 0,
         parents: [0; REGIONS],
+        from: 0,
+        to: 0,
         entries: 0,
         position: 0,
         threshold: 0,
@@ -102,6 +114,8 @@ impl Book {
             window: opening.window,
             halves: opening.halves,
             parents: opening.parents,
+            from: opening.from,
+            to: opening.to,
             position: opening.first,
             threshold: opening.threshold,
             cap: opening.cap,
@@ -164,6 +178,18 @@ impl Book {
         self.prices() * usize::from(self.window)
     }
 
+    /// Whether a valid book has the additional link.
+    #[inline]
+    pub fn has_link(&self) -> bool {
+        self.from != NO_END
+    }
+
+    /// "its flow and factor come as an extra last place" (request 2026-10): the length of flows, and of factors.
+    #[inline]
+    pub fn links(&self) -> usize {
+        usize::from(self.regions) + usize::from(self.has_link())
+    }
+
     /// "D = 6 × H intervals"
     #[inline]
     pub fn day(&self) -> u16 {
@@ -180,7 +206,7 @@ impl Book {
             && self.markets_valid()
     }
 
-    /// What 20 tests: R, S, W, H, the position and the parents.
+    /// What 20 tests: R, S, W, H, the position, the parents and the ends.
     fn shape_valid(&self) -> bool {
         let mut parents = true;
         for (region, &parent) in self.parents.iter().enumerate() {
@@ -193,6 +219,21 @@ impl Book {
             && (1..=48).contains(&self.halves)
             && self.position < self.day()
             && parents
+            && self.ends_valid()
+    }
+
+    /// "one additional link between two regions not already linked", or none.
+    #[inline]
+    fn ends_valid(&self) -> bool {
+        let (from, to) = (self.from, self.to);
+        if from == NO_END {
+            return to == NO_END;
+        }
+        from < self.regions
+            && to < self.regions
+            && from != to
+            && self.parents[usize::from(from)] != to
+            && self.parents[usize::from(to)] != from
     }
 
     /// "a count above W or above entries taken, next place not the count while below W", "an unused .. count .. not zero".

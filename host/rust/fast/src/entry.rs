@@ -61,8 +61,8 @@ impl Book {
         ring == self.ring_length()
             && entry.prices.len() == prices
             && entry.marks.len() == regions
-            && entry.flows.len() == regions
-            && entry.factors.len() == regions
+            && entry.flows.len() == self.links()
+            && entry.factors.len() == self.links()
             && entry.schedule.len() == prices * 2 * usize::from(self.halves)
             && table == prices
     }
@@ -84,14 +84,16 @@ impl Book {
         Ok(())
     }
 
-    /// "17 a factor out of range where the region has a parent"
+    /// "17 a factor out of range where the region has a parent", and then the additional link's, whatever its flow.
     fn check_factors(&self, entry: &Entry) -> Result<(), Refusal> {
-        let mut linked = self.parents.iter().zip(entry.factors);
-        let bad = linked.position(|(&parent, factor)| {
-            parent != NO_PARENT && !(10_000..=20_000).contains(factor)
-        });
+        let wrong = |factor: &u32| !(10_000..=20_000).contains(factor);
+        let regions = usize::from(self.regions);
+        let (of_regions, of_link) = entry.factors.split_at(regions);
+        let mut linked = self.parents.iter().zip(of_regions);
+        let bad = linked.position(|(&parent, factor)| parent != NO_PARENT && wrong(factor));
         match bad {
             Some(region) => refused_at(17, region),
+            None if of_link.iter().any(wrong) => refused_at(17, regions),
             None => Ok(()),
         }
     }

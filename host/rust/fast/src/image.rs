@@ -1,10 +1,32 @@
 //! "The image": store and load.
 
-use crate::book::{all_within, lowest, unless, Book, Refusal, MARKETS, REGIONS};
+use crate::book::{all_within, lowest, unless, Book, Refusal, MARKETS, NO_END, REGIONS};
 use crate::bytes::{eight_at, encode, i32_at, i64_at, numbers, put, u16_at, u32_at};
 
-/// Where the prices begin.
+/// Where the prices of an image of kind 1 begin; kind 2 has eight bytes more before its own (request 2026-10 of document 02).
 const HEAD: usize = 148;
+
+/// The image kinds, by their numbers.
+#[derive(Clone, Copy, Debug, PartialEq, Eq)]
+enum Kind {
+    One = 1,
+    Two = 2,
+}
+
+impl Kind {
+    /// Where the prices begin.
+    #[inline]
+    fn head(self) -> usize {
+        match self {
+            Kind::One => HEAD,
+            Kind::Two => HEAD + 8,
+        }
+    }
+}
+
+fn refused(number: u32) -> Refusal {
+    Refusal { number, place: 0 }
+}
 
 /// The counted prices of a window, oldest first: the part from the oldest on, and the part before it.
 fn counted(window: &[i32], count: usize, next: usize) -> (&[i32], &[i32]) {
@@ -16,16 +38,27 @@ fn counted(window: &[i32], count: usize, next: usize) -> (&[i32], &[i32]) {
 }
 
 impl Book {
-    /// "Store: 10; 11; 22 a counted price out of range or a total that isn't its sum; 23 buffer shorter than the image."
+    /// "Store: 10; 11; 22 a counted price out of range or a total that isn't its sum; 23 buffer shorter than the image." By kind 2.
     /// Answers the image's length.
     pub fn store(&self, ring: &[i32], buffer: &mut [u8]) -> Result<usize, Refusal> {
+        self.store_by(Kind::Two, ring, buffer)
+    }
+
+    /// By kind 1, with 47, "storing as kind 1 a book with the link; after 22".
+    pub fn store_kind_1(&self, ring: &[i32], buffer: &mut [u8]) -> Result<usize, Refusal> {
+        self.store_by(Kind::One, ring, buffer)
+    }
+
+    #[inline]
+    fn store_by(&self, kind: Kind, ring: &[i32], buffer: &mut [u8]) -> Result<usize, Refusal> {
         unless(self.valid(), 10)?;
         unless(ring.len() == self.ring_length(), 11)?;
         unless(self.counted_right(ring), 22)?;
-        let length = self.image_length();
+        unless(kind == Kind::Two || !self.has_link(), 47)?;
+        let length = self.image_length(kind);
         unless(length <= buffer.len(), 23)?;
-        let (head, mut rest) = buffer[..length].split_at_mut(HEAD);
-        self.put_head(head, length as u32);
+        let (head, mut rest) = buffer[..length].split_at_mut(kind.head());
+        self.put_head(kind, head, length as u32);
         for (place, window) in ring.chunks_exact(usize::from(self.window)).enumerate() {
             let (older, newer) = self.counted_of(place, window);
             let (first, after) = rest.split_at_mut(4 * older.len());
@@ -37,10 +70,10 @@ impl Book {
         Ok(length)
     }
 
-    /// "Length = 148 + 4 × M × (sum of counts)."
-    fn image_length(&self) -> usize {
+    /// "Length = 148 + 4 × M × (sum of counts)", of kind 2 from 156.
+    fn image_length(&self, kind: Kind) -> usize {
         let counts: usize = self.counts.iter().map(|&count| usize::from(count)).sum();
-        HEAD + 4 * self.markets() * counts
+        kind.head() + 4 * self.markets() * counts
     }
 
     /// The counted prices of the window at a place among R × M.
@@ -67,9 +100,9 @@ impl Book {
         })
     }
 
-    fn put_head(&self, head: &mut [u8], length: u32) {
+    fn put_head(&self, kind: Kind, head: &mut [u8], length: u32) {
         put(head, 0, &length.to_le_bytes());
-        put(head, 4, &1u16.to_le_bytes());
+        put(head, 4, &(kind as u16).to_le_bytes());
         put(head, 6, &[self.regions, self.services]);
         put(head, 8, &self.window.to_le_bytes());
         put(head, 10, &[self.halves, 0]);
@@ -84,11 +117,21 @@ impl Book {
             put(head, 44 + 2 * region, &count.to_le_bytes());
         }
         put(head, 60, &self.marks);
+        if kind == Kind::Two {
+            put(head, HEAD, &[self.from, self.to, 0, 0]);
+            put(head, HEAD + 4, &[255; 4]);
+        }
     }
 
-    /// The book of a head of 148 bytes, windows starting at their first places and sums 0.
-    fn of_head(head: &[u8]) -> Book {
+    /// The book of a head of its kind, windows starting at their first places and sums 0. "Kind 1 loads as having no such link".
+    fn of_head(kind: Kind, head: &[u8]) -> Book {
+        let [from, to] = match kind {
+            Kind::One => [NO_END; 2],
+            Kind::Two => [head[HEAD], head[HEAD + 1]],
+        };
         let mut book = Book {
+            from,
+            to,
             regions: head[6],
             services: head[7],
             window: u16_at(head, 8),
@@ -111,18 +154,25 @@ impl Book {
     }
 
     /// "Load: 24 under 148 bytes or length field not the lent length; 25 kind; 26 a field in bytes 6 to 147 ..; 27 length
-    /// formula; 11; 16, place counted from 0 among the image's prices."
+    /// formula; 11; 16, place counted from 0 among the image's prices." "24 kind 2 under 156 bytes, 26 bytes 148 to 155".
     pub fn load(image: &[u8], ring: &mut [i32]) -> Result<Book, Refusal> {
         let whole = image.len() >= HEAD && u32_at(image, 0) as usize == image.len();
         unless(whole, 24)?;
-        unless(u16_at(image, 4) == 1, 25)?;
-        let mut book = Book::of_head(&image[..HEAD]);
+        let kind = match u16_at(image, 4) {
+            2 if image.len() < Kind::Two.head() => return Err(refused(24)),
+            1 => Kind::One,
+            2 => Kind::Two,
+            _ => return Err(refused(25)),
+        };
+        let mut book = Book::of_head(kind, &image[..kind.head()]);
         let zeros = image[11] | image[26] | image[27] == 0;
-        unless(zeros && book.valid(), 26)?;
-        unless(image.len() == book.image_length(), 27)?;
+        let tail = kind == Kind::One || image[HEAD + 2..HEAD + 8] == [0, 0, 255, 255, 255, 255];
+        unless(zeros && tail && book.valid(), 26)?;
+        unless(image.len() == book.image_length(kind), 27)?;
         unless(ring.len() == book.ring_length(), 11)?;
-        book.check_image_prices(&image[HEAD..])?;
-        book.fill_windows(&image[HEAD..], ring);
+        let prices = &image[kind.head()..];
+        book.check_image_prices(prices)?;
+        book.fill_windows(prices, ring);
         Ok(book)
     }
 

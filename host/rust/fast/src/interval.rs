@@ -1,5 +1,5 @@
-//! Interval records, requests 2026-01 and 2026-08 of document 02: a reader, a writer, and a rewriter of the earlier form. Quotations
-//! are document 02's.
+//! Interval records, requests 2026-01, 2026-08 and 2026-10 of document 02: a reader, a writer, and a rewriter of the earlier form.
+//! Quotations are document 02's.
 
 use crate::book::{unless, Book, Refusal, REGIONS};
 use crate::bytes::{decode, eight_at, encode, i32_at, put, u16_at, u32_at};
@@ -9,6 +9,10 @@ const HEAD: usize = 12;
 const HEAD_KIND: u64 = 16;
 const REGION: usize = 16;
 const REGION_KIND: u64 = 17;
+
+/// Length and kind of the additional link's record.
+const LINK: usize = 14;
+const LINK_KIND: u64 = 18;
 
 /// What a writer is lent, but for its buffer.
 #[derive(Clone, Copy, Debug)]
@@ -55,6 +59,7 @@ fn check(bytes: &[u8], due: u16, markets: usize) -> Result<usize, Refusal> {
     let known = match u64::from(kind) {
         HEAD_KIND => length == HEAD,
         REGION_KIND => length == REGION + 4 * markets,
+        LINK_KIND => length == LINK,
         _ => true,
     };
     unless((6..=bytes.len()).contains(&length) && known, 40)?;
@@ -96,12 +101,18 @@ impl Book {
             return Err(self.refusal_of(bytes, 45));
         }
         let (head, rest) = whole.split_at(HEAD);
+        let (regions, link) = self.split_link(rest);
         let rows = interval.prices.chunks_exact_mut(self.markets());
-        for (region, (record, row)) in rest.chunks_exact(size).zip(rows).enumerate() {
+        for (region, (record, row)) in regions.chunks_exact(size).zip(rows).enumerate() {
             interval.marks[region] = record[7];
             interval.flows[region] = i32_at(record, 8);
             interval.factors[region] = u32_at(record, 12);
             decode(&record[REGION..], row);
+        }
+        if !link.is_empty() {
+            let last = usize::from(self.regions);
+            interval.flows[last] = i32_at(link, 6);
+            interval.factors[last] = u32_at(link, 10);
         }
         Ok(Found {
             next: at + length,
@@ -129,10 +140,25 @@ impl Book {
         let (head, rest) = whole.split_at(HEAD);
         let (new_head, new_rest) = buffer[..length].split_at_mut(HEAD);
         new_head.copy_from_slice(head);
-        for (record, place) in new_rest.chunks_exact_mut(size).zip(places) {
-            record.copy_from_slice(&rest[usize::from(place) * size..][..size]);
+        let (regions, link) = self.split_link(rest);
+        let (new_regions, new_link) = new_rest.split_at_mut(regions.len());
+        for (record, place) in new_regions.chunks_exact_mut(size).zip(places) {
+            record.copy_from_slice(&regions[usize::from(place) * size..][..size]);
         }
+        new_link.copy_from_slice(link);
         Ok(at + length)
+    }
+
+    /// The regions' records behind a head, and the additional link's, of which there is none where the book has none.
+    #[inline]
+    fn split_link<'a>(&self, rest: &'a [u8]) -> (&'a [u8], &'a [u8]) {
+        rest.split_at(rest.len() - self.link_length())
+    }
+
+    /// Whether what stands behind the regions' records is what is due there.
+    #[inline]
+    fn link_right(&self, link: &[u8]) -> bool {
+        link.is_empty() || u64::from_le_bytes(eight_at(link, 0)) & START == start(LINK, LINK_KIND)
     }
 
     /// Whether a head stands before the rest.
@@ -149,8 +175,9 @@ impl Book {
             return false;
         };
         let size = self.region_length();
-        let mut right = self.headed(head);
-        for (turn, record) in rest.chunks_exact(size).enumerate() {
+        let (regions, link) = self.split_link(rest);
+        let mut right = self.headed(head) & self.link_right(link);
+        for (turn, record) in regions.chunks_exact(size).enumerate() {
             let expected = start(size, REGION_KIND) | (turn as u64) << 48;
             right &= u64::from_le_bytes(eight_at(record, 0)) << 8 == expected << 8;
         }
@@ -162,11 +189,12 @@ impl Book {
     #[inline]
     fn places(&self, interval: &[u8]) -> Option<[u8; REGIONS]> {
         let (head, rest) = interval.split_at_checked(HEAD)?;
-        let mut right = self.headed(head);
+        let (regions, link) = self.split_link(rest);
+        let mut right = self.headed(head) & self.link_right(link);
         let size = self.region_length();
         let expected = start(size, REGION_KIND);
         let (mut places, mut met) = ([0; REGIONS], 0u32);
-        for (turn, record) in rest.chunks_exact(size).enumerate() {
+        for (turn, record) in regions.chunks_exact(size).enumerate() {
             let found = u64::from_le_bytes(eight_at(record, 0));
             let region = record[6];
             right &= found & START == expected && region < self.regions;
@@ -205,7 +233,11 @@ impl Book {
             }
             rest = &rest[length..];
         }
-        unreachable!("such an interval is accepted")
+        // All regions are there: it is the additional link's record that is refused.
+        match check(rest, LINK_KIND as u16, self.markets()) {
+            Err(refusal) => refusal,
+            Ok(_) => unreachable!("such an interval is accepted"),
+        }
     }
 
     /// "our writer goes upward, from the buffer's start": 10, 11, 23. Answers the interval's length.
@@ -220,6 +252,8 @@ impl Book {
         let (length, size) = (self.interval_length(), self.region_length());
         unless(length <= buffer.len(), 23)?;
         let (head, rest) = buffer[..length].split_at_mut(HEAD);
+        let regions = usize::from(self.regions);
+        let (rest, link) = rest.split_at_mut(regions * size);
         put(head, 0, &start(HEAD, HEAD_KIND).to_le_bytes());
         put(head, 6, &interval.number.to_le_bytes());
         put(head, 10, &[interval.kind, self.regions]);
@@ -231,6 +265,11 @@ impl Book {
             put(record, 12, &interval.factors[region].to_le_bytes());
             encode(row, &mut record[REGION..]);
         }
+        if !link.is_empty() {
+            put(link, 0, &start(LINK, LINK_KIND).to_le_bytes());
+            put(link, 6, &interval.flows[regions].to_le_bytes());
+            put(link, 10, &interval.factors[regions].to_le_bytes());
+        }
         Ok(length)
     }
 
@@ -241,12 +280,23 @@ impl Book {
 
     #[inline]
     fn interval_length(&self) -> usize {
-        HEAD + usize::from(self.regions) * self.region_length()
+        HEAD + usize::from(self.regions) * self.region_length() + self.link_length()
+    }
+
+    /// Bytes of the additional link's record, where the book has it.
+    #[inline]
+    fn link_length(&self) -> usize {
+        if self.has_link() {
+            LINK
+        } else {
+            0
+        }
     }
 
     /// 11: the prices' length, and those of marks, flows and factors.
     #[inline]
     pub(crate) fn slices_right(&self, prices: usize, others: [usize; 3]) -> bool {
-        prices == self.prices() && others == [usize::from(self.regions); 3]
+        let links = self.links();
+        prices == self.prices() && others == [usize::from(self.regions), links, links]
     }
 }

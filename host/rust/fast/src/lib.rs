@@ -1,6 +1,6 @@
 //! Document 01's book by hand, for speed: the baseline that the proved functions are measured against. Running sums,
 //! lent slices, no allocation; rule 10 and every other refusal at every call, as there. Document 02's interval records,
-//! intervals left, test load and bills beside it, and the schedule maker. Limits over an additional link (`routes`) stand alone as yet.
+//! intervals left, test load and bills beside it, its additional link (`routes`), and the schedule maker.
 //! Quotations are document 01's unless a file says otherwise.
 
 #![no_std]

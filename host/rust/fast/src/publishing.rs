@@ -3,15 +3,7 @@
 
 use crate::book::{Book, MARKETS, NO_PARENT, REGIONS};
 use crate::entry::Entry;
-
-/// The limits that bind each region's energy, in ten-thousandths of a cent; the extreme numbers stand for none.
-struct Limits {
-    caps: [i64; REGIONS],
-    floors: [i64; REGIONS],
-}
-
-pub(crate) const NO_CAP: i64 = i64::MAX;
-pub(crate) const NO_FLOOR: i64 = i64::MIN;
+use crate::routes::{Limits, Links, NO_CAP, NO_FLOOR};
 
 /// Ten-thousandths of a cent in a cent, and in half of one.
 const CENT: i64 = 10_000;
@@ -37,7 +29,10 @@ impl Book {
             }
         }
         if limited {
-            self.pass_on(entry, &mut limits);
+            match self.has_link() {
+                false => self.pass_on(entry, &mut limits),
+                true => limits = self.links_of(entry).passed_on(&limits),
+            }
             count += bind_energy(&limits, markets, table);
         }
         count
@@ -86,7 +81,14 @@ impl Book {
         count
     }
 
-    /// Step 4. Links make a forest whose parents are lower, each goes one way, and a link's rounding keeps order; so one
+    /// The links of a book with the additional one, which may close a ring: limits then go over routes.
+    fn links_of(&self, entry: &Entry) -> Links {
+        let parents = &self.parents[..usize::from(self.regions)];
+        let ends = (self.from, self.to);
+        Links::of(parents, Some(ends), entry.flows, entry.factors)
+    }
+
+    /// Step 4 without the additional link. Links make a forest whose parents are lower, each goes one way, and a link's rounding keeps order; so one
     /// pass towards the parents and one away from them bring every limit to every region that it reaches.
     fn pass_on(&self, entry: &Entry, limits: &mut Limits) {
         let Limits { caps, floors } = limits;

@@ -1,6 +1,6 @@
 //! Plays a list of calls from bytes and writes the answers as bytes: docs/RECORDS.md.
 
-use crate::book::{Book, Opening, Refusal, Report};
+use crate::book::{Book, Opening, Refusal, Report, NO_END};
 use crate::bytes::{
     decode, decode_unsigned, eight_at, encode, i32_at, i64_at, put, u16_at, u32_at,
 };
@@ -96,6 +96,8 @@ fn opening_of(record: &[u8]) -> Option<Opening> {
         halves: record[10],
         first: u16_at(record, 12),
         parents: eight_at(record, 14),
+        from: NO_END,
+        to: NO_END,
         threshold: i64_at(record, 22),
         cap: i32_at(record, 30),
         floor: i32_at(record, 34),
@@ -231,7 +233,7 @@ impl Player<'_> {
 
     /// "A restart is an image stored into a long enough buffer and loaded, from exactly its bytes, into another ring".
     fn restart(&mut self) -> Result<(), Refusal> {
-        let length = self.book.store(self.ring, self.image)?;
+        let length = self.book.store_kind_1(self.ring, self.image)?;
         self.book = Book::load(&self.image[..length], self.other)?;
         core::mem::swap(&mut self.ring, &mut self.other);
         Ok(())

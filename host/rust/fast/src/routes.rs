@@ -1,12 +1,19 @@
 //! Limits over "every route that carries power and visits no region twice" (request 2026-10 of document 02), by hand: a search that calls
 //! itself region by region, over neighbours in fixed arrays and a set of bits. With an additional link the two passes of `publishing` no
-//! longer do. The book here has no such link as yet: this is what its entry will call, and what the benchmark times.
+//! longer do.
 
 use crate::book::{NO_PARENT, REGIONS};
-use crate::publishing::{carried_cap, carried_floor, NO_CAP, NO_FLOOR};
+use crate::publishing::{carried_cap, carried_floor};
 
-/// Limits in ten-thousandths of a cent, of each region; `None` is no limit.
-pub type Limits = [Option<i64>; REGIONS];
+/// The limits that bind each region's energy, in ten-thousandths of a cent; the extreme numbers stand for none.
+#[derive(Clone, Copy, Debug, PartialEq, Eq)]
+pub struct Limits {
+    pub caps: [i64; REGIONS],
+    pub floors: [i64; REGIONS],
+}
+
+pub const NO_CAP: i64 = i64::MAX;
+pub const NO_FLOOR: i64 = i64::MIN;
 
 /// The links that carry power, at the region that it comes from and at the one that it goes to.
 #[derive(Clone, Copy, Debug)]
@@ -70,37 +77,37 @@ impl Links {
     }
 
     /// The limits that bind each region, from those that are its own: "the smallest cap and highest floor binding".
-    pub fn passed_on(&self, caps: &Limits, floors: &Limits) -> (Limits, Limits) {
+    pub fn passed_on(&self, own: &Limits) -> Limits {
         let mut found = Found {
             links: self,
-            caps: [NO_CAP; REGIONS],
-            floors: [NO_FLOOR; REGIONS],
+            limits: Limits {
+                caps: [NO_CAP; REGIONS],
+                floors: [NO_FLOOR; REGIONS],
+            },
         };
         for region in 0..REGIONS {
-            if let Some(cap) = caps[region] {
-                found.cap(region, cap, 0);
+            if own.caps[region] != NO_CAP {
+                found.cap(region, own.caps[region], 0);
             }
-            if let Some(floor) = floors[region] {
-                found.floor(region, floor, 0);
+            if own.floors[region] != NO_FLOOR {
+                found.floor(region, own.floors[region], 0);
             }
         }
-        let some = |none: i64, limit: i64| (limit != none).then_some(limit);
-        let caps = found.caps.map(|cap| some(NO_CAP, cap));
-        (caps, found.floors.map(|floor| some(NO_FLOOR, floor)))
+        found.limits
     }
 }
 
 /// What the search has found so far.
 struct Found<'a> {
     links: &'a Links,
-    caps: [i64; REGIONS],
-    floors: [i64; REGIONS],
+    limits: Limits,
 }
 
 impl Found<'_> {
     /// A cap limit comes to a region by a route through these, and goes on against the power.
     fn cap(&mut self, here: usize, limit: i64, visited: u8) {
-        self.caps[here] = self.caps[here].min(limit);
+        let cap = &mut self.limits.caps[here];
+        *cap = limit.min(*cap);
         let visited = visited | 1 << here;
         let links = self.links;
         for &(next, factor) in links.into[here].each() {
@@ -112,7 +119,8 @@ impl Found<'_> {
 
     /// A floor limit comes to a region by a route through these, and goes on with the power.
     fn floor(&mut self, here: usize, limit: i64, visited: u8) {
-        self.floors[here] = self.floors[here].max(limit);
+        let floor = &mut self.limits.floors[here];
+        *floor = limit.max(*floor);
         let visited = visited | 1 << here;
         let links = self.links;
         for &(next, factor) in links.out[here].each() {

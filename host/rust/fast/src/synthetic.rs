@@ -1,11 +1,11 @@
 //! A test load, request 2026-07 of document 02, whose words are quoted here. No draw waits for the one before it: after any number of
 //! draws s is a factor times the seed and a term more, mod 2³².
 
-use crate::book::{unless, Book, Refusal, MARKETS, REGIONS};
+use crate::book::{unless, Book, Refusal, LINKS, MARKETS, REGIONS};
 use crate::interval::IntervalMut;
 
 /// The draws of the largest interval.
-const MOST: usize = REGIONS * (MARKETS + 2);
+const MOST: usize = REGIONS * MARKETS + 2 * LINKS;
 
 /// Factors and terms after 1, 2 and so on draws: "each draw replaces s by (s × 1,664,525 + 1,013,904,223) mod 4,294,967,296".
 static STEPS: ([u32; MOST], [u32; MOST]) = {
@@ -54,7 +54,7 @@ impl Book {
             *loss = 10_000 + d % 2_000;
         }
         interval.marks.fill(0);
-        let draws = self.prices() + 2 * usize::from(self.regions);
+        let draws = self.prices() + 2 * self.links();
         Ok(after(seed, draws - 1))
     }
 

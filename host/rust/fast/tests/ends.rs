@@ -9,7 +9,7 @@ use written::{replay, Lent};
 /// A list over a small book, opening first, and the room that just suffices for it.
 fn small_list(seed: u64) -> (Vec<Vec<u8>>, Lent) {
     let mut random = Random::new(seed);
-    let mut opening = calls::opening(&mut random);
+    let mut opening = calls::unlinked(calls::opening(&mut random));
     (opening.window, opening.halves) = (opening.window.min(3), 1);
     opening.first = 2;
     let ring = calls::ring_length(&opening);

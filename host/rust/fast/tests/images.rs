@@ -3,7 +3,7 @@
 use fast::Book;
 use generator::{calls, images, Random};
 use independent::image::{first_refusal, Fields};
-use independent::{Call, Ledger};
+use independent::{Call, Kind, Ledger};
 
 /// The ring length that an image asks for, if it can be told.
 fn ring_of(image: &[u8]) -> usize {
@@ -65,11 +65,15 @@ fn loads() {
         if let Some((book, ring)) = load(&image, right) {
             accepted += 1;
             let mut buffer = vec![0x5A; image.len() + 3];
-            assert_eq!(book.store(&ring, &mut buffer), Ok(image.len()));
+            let store = match image[4] {
+                1 => Book::store_kind_1,
+                _ => Book::store,
+            };
+            assert_eq!(store(&book, &ring, &mut buffer), Ok(image.len()));
             assert_eq!(buffer, [&image[..], &[0x5A; 3]].concat());
             let short = &mut buffer[..image.len() - 1];
             assert_eq!(
-                book.store(&ring, short).map_err(|refusal| refusal.number),
+                store(&book, &ring, short).map_err(|refusal| refusal.number),
                 Err(23)
             );
         }
@@ -115,9 +119,10 @@ fn loaded_books_go_on() {
             enter(&mut book, &mut ring, &mut ledger, &call);
         }
         full += u32::from(book.entries == 10_000_000);
-        let mut buffer = vec![0; ledger.image().len()];
+        let expected = ledger.image_by(Kind::Two);
+        let mut buffer = vec![0; expected.len()];
         assert_eq!(book.store(&ring, &mut buffer), Ok(buffer.len()));
-        assert_eq!(buffer, ledger.image());
+        assert_eq!(buffer, expected);
     }
     assert!(full > 100);
 }

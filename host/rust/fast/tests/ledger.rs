@@ -4,7 +4,7 @@ mod written;
 
 use generator::{calls, Random};
 use independent::rules::Refusal;
-use independent::{Answer, Call, Ledger, Opening, Report, Values};
+use independent::{Answer, Call, Kind, Ledger, Opening, Report, Values};
 use written::{replay, Lent};
 
 /// Room for anything that a list may hold; the image and the other ring as they are told.
@@ -53,7 +53,9 @@ fn written_list(
         let mut call = calls::call(random, opened);
         match &mut call {
             Call::Entry(_, lent_ring, _) => *lent_ring = (*lent_ring).min(ring),
-            Call::Restart(_, image, other) => (*image, *other) = (lent.image, lent.other.min(ring)),
+            Call::Restart(kind, image, other) => {
+                (*kind, *image, *other) = (Kind::One, lent.image, lent.other.min(ring));
+            }
             _ => {}
         }
         let answer = opened.call(&call);
@@ -85,7 +87,7 @@ fn note(seen: &mut Seen, answers: &[Vec<u8>]) {
 /// One list over an opened book: rings of the right length or longer, buffers mostly long enough.
 fn one_list(seed: u64, length: usize, seen: &mut Seen) {
     let mut random = Random::new(seed);
-    let opening = calls::opening(&mut random);
+    let opening = calls::unlinked(calls::opening(&mut random));
     let ring = calls::ring_length(&opening);
     let mut ledger = Ledger::open(&opening, ring).expect("a valid opening");
     let longest = 148 + 4 * ring;
@@ -143,6 +145,7 @@ fn openings() {
     for seed in 0..3_000 {
         let mut random = Random::new(0x09E4_0000 + seed);
         let (opening, lent_ring) = calls::damaged_opening(&mut random);
+        let opening = calls::unlinked(opening);
         let Some(opening_record) = written::opening(&opening) else {
             continue;
         };
@@ -184,13 +187,13 @@ fn answers_of(asked: &[Call], mut play: impl FnMut(&Call) -> Answer) -> Vec<Vec<
 /// A few calls of every kind that need no book to be made: those of another book, lent no ring, and a restart that an
 /// opened book refuses by 23.
 fn calls_after(random: &mut Random) -> Vec<Call> {
-    let another = calls::opened(random);
+    let another = calls::opened_unlinked(random);
     let (list, _) = calls::list(random, &another, 6);
     let mut asked = Vec::new();
     for mut call in list {
         match &mut call {
             Call::Entry(_, ring, _) => *ring = 0,
-            Call::Restart(_, image, ring) => (*image, *ring) = (0, 0),
+            Call::Restart(kind, image, ring) => (*kind, *image, *ring) = (Kind::One, 0, 0),
             _ => {}
         }
         asked.push(call);

@@ -1,12 +1,12 @@
 //! The search over routes against the independent ledger: what an entry of a ring of eight regions publishes, all of them carrying power
 //! and all of them sources, the worst case of a search; and limits over generated links against the independent ones.
 
-use fast::routes::{Limits, Links};
+use fast::routes::{Limits, Links, NO_CAP, NO_FLOOR};
 use generator::{calls, Random};
 use independent::image::Fields;
 use independent::ledger::Entry;
 use independent::publishing::{passed_on, Bounds};
-use independent::{Kind, Known, Ledger, Opening};
+use independent::{Ledger, Opening};
 
 const CENT: i64 = 10_000;
 
@@ -25,8 +25,8 @@ fn ring(from: u8, to: u8) -> Ledger {
         cap: 60_000,
         floor: -60_000,
     };
-    let image = Fields::blank(&settings).bytes_by(Kind::Two);
-    let begun = Ledger::begin_by(Known::Link, &image, 8).expect("a valid image");
+    let image = Fields::blank(&settings).bytes();
+    let begun = Ledger::begin(&image, 8).expect("a valid image");
     let mut ledger = begun.expect("no entries");
     let entry = entry(0, 100_000, &[0; 9], &[10_000; 9]);
     assert_eq!(ledger.enter(8, entry, &mut [0; 8]), Ok(0));
@@ -76,14 +76,29 @@ fn ring_of_eight() {
         assert_eq!(entered, Ok(8));
         let parents = [255, 0, 1, 2, 3, 4, 5, 6];
         let links = Links::of(&parents, Some((from, to)), &flows, &factors);
-        let own = [Some(if caps { 60_000 } else { -60_000 } * CENT); 8];
         let found = match caps {
-            true => links.passed_on(&own, &[None; 8]).0,
-            false => links.passed_on(&[None; 8], &own).1,
+            true => {
+                let caps = [60_000 * CENT; 8];
+                links.passed_on(&Limits { caps, ..NO_LIMITS }).caps
+            }
+            false => {
+                let floors = [-60_000 * CENT; 8];
+                links
+                    .passed_on(&Limits {
+                        floors,
+                        ..NO_LIMITS
+                    })
+                    .floors
+            }
         };
-        assert_eq!(found.map(|limit| cents(limit.expect("its own"))), published);
+        assert_eq!(found.map(cents), published);
     }
 }
+
+const NO_LIMITS: Limits = Limits {
+    caps: [NO_CAP; 8],
+    floors: [NO_FLOOR; 8],
+};
 
 /// Links, flows and factors of any book, and the limits that set out.
 struct Trial {
@@ -116,19 +131,23 @@ impl Trial {
 
     /// The limits that bind each region, by the search.
     fn found(&self) -> Vec<Bounds> {
-        let side = |of: fn(&Bounds) -> Option<i128>| -> Limits {
-            let own = |region| self.own.get(region).and_then(of);
-            std::array::from_fn(|region| own(region).map(|limit| limit as i64))
-        };
+        let mut own = NO_LIMITS;
+        for (region, bounds) in self.own.iter().enumerate() {
+            own.caps[region] = bounds.cap.map_or(NO_CAP, |cap| cap as i64);
+            own.floors[region] = bounds.floor.map_or(NO_FLOOR, |floor| floor as i64);
+        }
         let parents = &self.opening.parents[..self.own.len()];
         let ends = (self.opening.from != 255).then_some((self.opening.from, self.opening.to));
         let links = Links::of(parents, ends, &self.flows, &self.factors);
-        let (caps, floors) = links.passed_on(&side(|own| own.cap), &side(|own| own.floor));
-        let bounds = caps.into_iter().zip(floors).map(|(cap, floor)| Bounds {
-            cap: cap.map(i128::from),
-            floor: floor.map(i128::from),
-        });
-        bounds.take(self.own.len()).collect()
+        let found = links.passed_on(&own);
+        let bounds = |region: usize| {
+            let (cap, floor) = (found.caps[region], found.floors[region]);
+            Bounds {
+                cap: (cap != NO_CAP).then_some(cap.into()),
+                floor: (floor != NO_FLOOR).then_some(floor.into()),
+            }
+        };
+        (0..self.own.len()).map(bounds).collect()
     }
 }
 

@@ -10,6 +10,8 @@ const OPENING: Opening = Opening {
     halves: 1,
     first: 0,
     parents: [255, 0, 255, 255, 255, 255, 255, 255],
+    from: 255,
+    to: 255,
     threshold: 90_000,
     cap: 60_000,
     floor: -60_000,
@@ -54,6 +56,7 @@ fn all_refuse(spoil: impl Fn(&mut Book)) {
     assert_eq!(book.set_limits(1, -1), Err(refused));
     assert_eq!(book.report(0, 0), Err(refused));
     assert_eq!(book.store(&ring, &mut [0; 300]), Err(refused));
+    assert_eq!(book.store_kind_1(&ring, &mut [0; 300]), Err(refused));
     let interval = Interval {
         number: 2,
         kind: 0,
@@ -89,6 +92,9 @@ fn every_field() {
     all_refuse(|book| book.parents[0] = 0);
     all_refuse(|book| book.parents[1] = 1);
     all_refuse(|book| book.parents[2] = 0);
+    for ends in [(0, 0), (0, 1), (1, 0), (1, 2), (2, 1), (0, 255), (255, 1)] {
+        all_refuse(|book| (book.from, book.to) = ends);
+    }
     all_refuse(|book| book.entries = 10_000_001);
     all_refuse(|book| book.threshold = 0);
     all_refuse(|book| book.threshold = 100_000_000_001);
@@ -185,7 +191,7 @@ fn thresholds() {
 fn spoilt_rings() {
     let (mut book, ring) = sound();
     let store = |book: &Book, ring: &[i32], room: usize| {
-        let stored = book.store(ring, &mut vec![0; room]);
+        let stored = book.store_kind_1(ring, &mut vec![0; room]);
         stored.map_err(|refusal| refusal.number)
     };
     assert_eq!(store(&book, &ring, 180), Ok(180));

@@ -4,7 +4,7 @@
 use fast::{Book, Refusal};
 use generator::{calls, images, Random};
 use independent::image::Fields;
-use independent::{Answer, Call, Ledger, Opening, Report, Values};
+use independent::{Answer, Call, Kind, Ledger, Opening, Report, Values};
 use std::collections::BTreeMap;
 
 /// A book and its ring, as a host keeps them.
@@ -23,6 +23,8 @@ fn opening_of(opening: &Opening) -> fast::Opening {
         halves: opening.halves as u8,
         first: opening.first as u16,
         parents: opening.parents,
+        from: opening.from,
+        to: opening.to,
         threshold: opening.threshold,
         cap: opening.cap,
         floor: opening.floor,
@@ -64,8 +66,8 @@ impl Host {
                 answer(set.err(), Values::Nothing)
             }
             Call::Report(region, market) => self.report(*region, *market),
-            Call::Restart(_, image, ring) => {
-                let restarted = self.restart(*image, *ring);
+            Call::Restart(kind, image, ring) => {
+                let restarted = self.restart(*kind, *image, *ring);
                 answer(restarted.err(), Values::Nothing)
             }
         }
@@ -105,9 +107,12 @@ impl Host {
         answer(report.err(), Values::Report(values))
     }
 
-    fn restart(&mut self, image: usize, ring: usize) -> Result<(), Refusal> {
+    fn restart(&mut self, kind: Kind, image: usize, ring: usize) -> Result<(), Refusal> {
         let (mut image, mut other) = (vec![79; image], vec![80; ring]);
-        let length = self.book.store(&self.ring, &mut image)?;
+        let length = match kind {
+            Kind::One => self.book.store_kind_1(&self.ring, &mut image)?,
+            Kind::Two => self.book.store(&self.ring, &mut image)?,
+        };
         assert!(image[length..].iter().all(|&byte| byte == 79));
         self.book = Book::load(&image[..length], &mut other)?;
         self.ring = other;
@@ -160,7 +165,7 @@ fn lists() {
         ("threshold", &[0, 18, 44]),
         ("limits", &[0, 19]),
         ("report", &[0, 21]),
-        ("restart", &[0, 11, 23]),
+        ("restart", &[0, 11, 23, 47]),
     ];
     for (kind, numbers) in expected {
         for &number in numbers {

@@ -129,6 +129,8 @@ fn fast_book() {
         halves: 48,
         first: 0,
         parents: OPENING.parents,
+        from: OPENING.from,
+        to: OPENING.to,
         threshold: OPENING.threshold,
         cap: OPENING.cap,
         floor: OPENING.floor,

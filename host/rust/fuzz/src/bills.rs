@@ -3,7 +3,7 @@
 
 use crate::bytes::Bytes;
 use crate::pages::{Pages, Slice};
-use crate::typed::{lengths, numbers, small, Kept};
+use crate::typed::{flows, lengths, numbers, small, Kept};
 use compare::bills::judgement;
 use compare::typed::told;
 use independent::bill::{amount, Bill, Judgement, Lines};
@@ -15,7 +15,10 @@ const MOST: u8 = 6;
 /// An interval that differs from the next one, at no price and without marks, by the bytes; of the lengths that the book asks for.
 fn interval(kept: &Kept, bytes: &mut Bytes, turn: u32) -> Interval {
     let (regions, prices, ..) = lengths(kept.book.raw());
-    let number = kept.book.entries().wrapping_add(turn);
+    let (number, links) = (
+        kept.book.entries().wrapping_add(turn),
+        flows(kept.book.raw()),
+    );
     Interval {
         number: number ^ small(bytes),
         kind: bytes.byte(),
@@ -24,8 +27,8 @@ fn interval(kept: &Kept, bytes: &mut Bytes, turn: u32) -> Interval {
             .iter()
             .map(|&mark| mark as u8)
             .collect(),
-        flows: numbers(bytes, regions),
-        factors: numbers(bytes, regions)
+        flows: numbers(bytes, links),
+        factors: numbers(bytes, links)
             .iter()
             .map(|&factor| 10_000 ^ factor as u32)
             .collect(),
@@ -55,6 +58,7 @@ fn lines(kept: &Kept, bytes: &mut Bytes, bill: &Bill) -> Lines {
     let mut lines = Lines::default();
     let (mut book, mut ring) = (kept.paper.clone(), kept.ring.clone());
     let (regions, prices, ..) = lengths(kept.book.raw());
+    let links = flows(kept.book.raw());
     let (mut at, energy_at) = (0, bill.region as usize * (prices / regions.max(1)));
     while at < bill.records.len() {
         let mut interval = Interval {
@@ -62,8 +66,8 @@ fn lines(kept: &Kept, bytes: &mut Bytes, bill: &Bill) -> Lines {
             kind: 0,
             prices: vec![0; prices],
             marks: vec![0; regions],
-            flows: vec![0; regions],
-            factors: vec![0; regions],
+            flows: vec![0; links],
+            factors: vec![0; links],
         };
         let Ok(next) = book.read_interval(&bill.records, at, &mut interval) else {
             break;

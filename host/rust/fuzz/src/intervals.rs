@@ -8,18 +8,29 @@ use compare::typed::{paper, told};
 use guxhamole::{Book, IntervalMut, Settings, BOOK_LENGTH};
 use independent::interval::Interval;
 
+/// The ends of an additional link, half a byte each, where no two regions are linked otherwise; none by zeros and by others that are none.
+fn ends(byte: u8, regions: u8) -> (u8, u8) {
+    match (byte >> 4, byte & 15) {
+        (from, to) if from < regions && to < regions && from != to => (from, to),
+        _ => (guxhamole::NONE, guxhamole::NONE),
+    }
+}
+
 /// A book just opened, with one of its bytes changed; zeros change none.
 fn book(bytes: &mut Bytes) -> Book {
+    let (regions, services) = (1 + bytes.byte() % 8, bytes.byte() % 11);
+    let (from, to) = ends(bytes.byte(), regions);
     let settings = Settings {
-        regions: 1 + bytes.byte() % 8,
-        services: bytes.byte() % 11,
+        regions,
+        services,
         window: 1,
         halves: 1,
         parents: [255; 8],
+        from,
+        to,
         ..Settings::default()
     };
-    let (regions, services) = (settings.regions.into(), settings.services.into());
-    let mut ring = vec![0; guxhamole::ring_length(regions, services, 1)];
+    let mut ring = vec![0; guxhamole::ring_length(regions.into(), services.into(), 1)];
     let book = Book::open(settings, &mut ring).expect("a valid opening");
     let mut fields = book.to_bytes();
     fields[usize::from(bytes.u16()) % BOOK_LENGTH] ^= bytes.byte();
@@ -43,8 +54,8 @@ fn lent(bytes: &mut Bytes, book: &Book) -> Interval {
         kind: bytes.byte(),
         prices: vec![-1; bytes.length(book.prices_length())],
         marks: vec![2; bytes.length(regions)],
-        flows: vec![-3; bytes.length(regions)],
-        factors: vec![4; bytes.length(regions)],
+        flows: vec![-3; bytes.length(book.flows_length())],
+        factors: vec![4; bytes.length(book.flows_length())],
     }
 }
 
@@ -56,8 +67,8 @@ fn fitting(book: &Book) -> Interval {
         kind: 0,
         prices: vec![-1; book.prices_length()],
         marks: vec![2; regions],
-        flows: vec![-3; regions],
-        factors: vec![4; regions],
+        flows: vec![-3; book.flows_length()],
+        factors: vec![4; book.flows_length()],
     }
 }
 

@@ -4,7 +4,7 @@
 use crate::bytes::Bytes;
 use crate::pages::Pages;
 use crate::Met;
-use compare::typed::{paper, told};
+use compare::typed::{paper, store, stored_length, told};
 use guxhamole::{raw, Book, IntervalMut, Settings, BOOK_LENGTH};
 use independent::amount::amount_text;
 use independent::book::Book as Paper;
@@ -56,6 +56,11 @@ pub fn run(room: &mut [Pages], data: &[u8]) -> Met {
 /// The number of an answer that both give.
 fn number<T>(result: &Result<T, Refusal>) -> u32 {
     result.as_ref().err().map_or(0, |refusal| refusal.number)
+}
+
+/// Flows of a book of any fields, as many as a book can have.
+pub(crate) fn flows(book: &raw::Book) -> usize {
+    guxhamole::flows_length(book.regions.min(8).into(), book.from)
 }
 
 /// Regions, prices, ring and schedule of a book of any fields, as long as a book can have them.
@@ -128,6 +133,8 @@ fn open(room: &mut [Pages], bytes: &mut Bytes, at_end: bool, met: &mut Met) -> O
         halves: bytes.byte(),
         first: bytes.u16(),
         parents: bytes.take(),
+        from: bytes.byte(),
+        to: bytes.byte(),
         threshold: bytes.i64(),
         cap: bytes.i32(),
         floor: bytes.i32(),
@@ -139,8 +146,8 @@ fn open(room: &mut [Pages], bytes: &mut Bytes, at_end: bool, met: &mut Met) -> O
         halves: settings.halves.into(),
         first: settings.first.into(),
         parents: settings.parents,
-        from: 255,
-        to: 255,
+        from: settings.from,
+        to: settings.to,
         threshold: settings.threshold,
         cap: settings.cap,
         floor: settings.floor,
@@ -207,7 +214,8 @@ impl Kept {
             numbers(bytes, length)
         };
         let (prices, schedule) = (some(prices), some(schedule));
-        let (flows, marks, factors) = (some(regions), some(regions), some(regions));
+        let links = flows(self.book.raw());
+        let (flows, marks, factors) = (some(links), some(regions), some(links));
         Entry {
             number: self.book.entries() ^ bytes.u32(),
             kind: bytes.byte(),
@@ -306,14 +314,15 @@ impl Kept {
     /// A draw of a test load into slices of about the book's lengths.
     fn draw(&self, room: &mut [Pages], bytes: &mut Bytes, at_end: bool) -> u32 {
         let (regions, asked, _, _) = lengths(self.book.raw());
+        let links = flows(self.book.raw());
         let seed = bytes.u32();
         let mut interval = Interval {
             number: bytes.u32(),
             kind: bytes.byte(),
             prices: vec![-1; bytes.length(asked)],
             marks: vec![2; bytes.length(regions)],
-            flows: vec![-3; bytes.length(regions)],
-            factors: vec![4; bytes.length(regions)],
+            flows: vec![-3; bytes.length(links)],
+            factors: vec![4; bytes.length(links)],
         };
         let [one, two, three, four, ..] = room else {
             unreachable!("four slices at least")
@@ -344,9 +353,13 @@ impl Kept {
         number(&expected)
     }
 
-    /// A store into a buffer that is about long enough, and a load of exactly the image.
+    /// A store by a kind, of zeros kind 2, into a buffer that is about long enough, and a load of exactly the image.
     fn restart(&mut self, room: &mut [Pages], bytes: &mut Bytes, at_end: bool) -> u32 {
-        let asked = self.book.stored_length().min(guxhamole::MOST_IMAGE);
+        let kind = match bytes.byte().is_multiple_of(2) {
+            true => Kind::Two,
+            false => Kind::One,
+        };
+        let asked = stored_length(&self.book, kind).min(guxhamole::MOST_IMAGE);
         let (buffer, other) = (bytes.length(asked), bytes.length(self.ring.len()));
         let [one, two, ..] = room else {
             unreachable!("two slices at least")
@@ -354,8 +367,8 @@ impl Kept {
         let ring = one.hold(&self.ring, at_end);
         let image = two.lend::<u8>(buffer, at_end);
         let mut expected_image = image.lent.to_vec();
-        let stored = told(self.book.store(ring.lent, image.lent));
-        let expected = self.paper.store(Kind::One, &self.ring, &mut expected_image);
+        let stored = store(&self.book, kind, ring.lent, image.lent);
+        let expected = self.paper.store(kind, &self.ring, &mut expected_image);
         assert_eq!(stored, expected, "store");
         assert!(image.holds(&expected_image), "image");
         assert!(ring.holds(&self.ring), "ring after a store");

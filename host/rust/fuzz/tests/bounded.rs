@@ -45,7 +45,12 @@ fn seed(random: &mut Random) -> Vec<u8> {
 fn interval(random: &mut Random) -> Vec<u8> {
     let book = intervals::book(random);
     let reading = intervals::reading(random, &book);
-    let mut input = vec![3, random.below(2) as u8, book.regions - 1, book.services];
+    let ends = match book.shape().link {
+        Some((from, to)) => (from << 4 | to) as u8,
+        None => 0,
+    };
+    let at_end = random.below(2) as u8;
+    let mut input = vec![3, at_end, book.regions - 1, book.services, ends];
     input.extend([0; 3]);
     input.push(3);
     input.extend((reading.at as u64).to_le_bytes());
@@ -72,11 +77,13 @@ fn typed(random: &mut Random) -> Vec<u8> {
             input.extend(few.iter().flat_map(|price| price.to_le_bytes()));
         }
         1 => {
-            let opening = lists::opening_record(&calls::opening(random));
-            let record = records::Record::Opening(opening).bytes();
+            let opening = calls::opening(random);
+            let record = records::Record::Opening(lists::opening_record(&opening)).bytes();
             input.push(1);
             input.extend(&record[6..11]);
-            input.extend(&record[12..]);
+            input.extend(&record[12..22]);
+            input.extend([opening.from, opening.to]);
+            input.extend(&record[22..]);
             input.push(0);
         }
         _ => {
@@ -237,12 +244,12 @@ fn bounded() {
 /// The answers that a run over all inputs must have met.
 fn all_met(met: &BTreeMap<(&'static str, u32), u64>) {
     let expected: [(&str, &[u32]); 18] = [
-        ("check", &[0]),
-        ("load", &[0]),
-        ("opening", &[0, 18, 44]),
+        ("check", &[0, 24, 25, 26]),
+        ("load", &[0, 24, 25, 26]),
+        ("opening", &[0, 18, 20, 44]),
         ("replay", &[1]),
         ("entry", &[0, 10, 11, 12, 13, 14, 15, 16, 17]),
-        ("restart", &[0, 10, 11, 22, 23]),
+        ("restart", &[0, 10, 11, 22, 23, 47]),
         ("threshold", &[0, 18, 44]),
         ("limits", &[0, 19]),
         ("report", &[0]),

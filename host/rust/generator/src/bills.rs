@@ -9,7 +9,7 @@ use independent::bill::{amount, Bill, Lines, MOST_ENERGY};
 use independent::book::Book;
 use independent::image::Fields;
 use independent::interval::Interval;
-use independent::{Call, Known, Ledger, Opening};
+use independent::{Call, Ledger, Opening};
 
 /// A book and its ring, and the ledger that knows their history.
 #[derive(Clone, Debug)]
@@ -43,8 +43,8 @@ impl Kept {
     pub fn load(image: &[u8]) -> Kept {
         let mut ring = vec![0; Fields::read(image).shape().ring()];
         Kept {
-            ledger: Ledger::load_by(Known::Link, image, ring.len()).expect("a valid image"),
-            book: Book::load_by(Known::Link, image, &mut ring).expect("a valid image"),
+            ledger: Ledger::load(image, ring.len()).expect("a valid image"),
+            book: Book::load(image, &mut ring).expect("a valid image"),
             ring,
         }
     }
@@ -197,7 +197,7 @@ fn published(checking: &Checking) -> Vec<(Interval, Vec<i32>)> {
     while at < bill.records.len() && book.fault().is_none() {
         let shape = book.shape();
         let mut interval = intervals::fitting(&shape);
-        let Ok(next) = book.read_interval_by(Known::Link, &bill.records, at, &mut interval) else {
+        let Ok(next) = book.read_interval(&bill.records, at, &mut interval) else {
             break;
         };
         let entry = interval.clone().with(&bill.schedule);

@@ -5,15 +5,11 @@ use crate::random::Random;
 use crate::ties;
 use independent::ledger::Entry;
 use independent::publishing::publish;
-use independent::rules::{ends_allowed, Settings, Shape, KNOWN, NO_END, NO_PARENT};
-use independent::{Call, Kind, Known, Ledger, Opening};
+use independent::rules::{ends_allowed, Settings, Shape, NO_END, NO_PARENT};
+use independent::{Call, Kind, Ledger, Opening};
 
-/// How many of a hundred openings have an additional link (request 2026-10 of document 02): none until the compiled functions know it,
-/// so that what is compared with them stays as it is.
-const LINKED: usize = match KNOWN {
-    Known::NoLink => 0,
-    Known::Link => 40,
-};
+/// How many of a hundred openings get an additional link (request 2026-10 of document 02), where two regions are left for one.
+const LINKED: usize = 40;
 
 /// The ring length that an opening with small settings asks for.
 pub fn ring_length(opening: &Opening) -> usize {
@@ -131,9 +127,14 @@ pub fn opening(random: &mut Random) -> Opening {
 
 /// The opening with or without an additional link, whichever it had: for openings whose regions or parents were changed.
 pub fn maybe_linked(random: &mut Random, opening: Opening) -> Opening {
-    if LINKED > 0 && random.chance(LINKED) {
+    if random.chance(LINKED) {
         return linked(random, opening);
     }
+    unlinked(opening)
+}
+
+/// The opening without an additional link.
+pub fn unlinked(opening: Opening) -> Opening {
     Opening {
         from: NO_END,
         to: NO_END,
@@ -185,11 +186,11 @@ pub fn with_any_ends(random: &mut Random, opening: Opening) -> Opening {
     }
 }
 
-/// A kind of image that a book can be stored by; by kind 1 alone until the compiled functions know the other.
+/// A kind of image that a book can be stored by.
 pub fn image_kind(random: &mut Random, shape: &Shape) -> Kind {
-    match KNOWN {
-        Known::Link if shape.link.is_none() => random.pick(&Kind::ALL),
-        _ => Kind::holding(shape),
+    match shape.link {
+        None => random.pick(&Kind::ALL),
+        Some(_) => Kind::Two,
     }
 }
 
@@ -226,7 +227,7 @@ pub fn damaged_opening(random: &mut Random) -> (Opening, usize) {
             ring = ring_length(&opening);
         }
     }
-    if LINKED > 0 && random.chance(20) {
+    if random.chance(20) {
         opening = with_any_ends(random, opening);
     }
     (opening, ring)
@@ -623,7 +624,17 @@ pub fn list(random: &mut Random, from: &Ledger, length: usize) -> (Vec<Call>, Le
 /// A newly opened ledger of any valid shape.
 pub fn opened(random: &mut Random) -> Ledger {
     let opening = opening(random);
-    match Ledger::open(&opening, ring_length(&opening)) {
+    opened_by(&opening)
+}
+
+/// One without an additional link, as a replay's is.
+pub fn opened_unlinked(random: &mut Random) -> Ledger {
+    let opening = unlinked(opening(random));
+    opened_by(&opening)
+}
+
+fn opened_by(opening: &Opening) -> Ledger {
+    match Ledger::open(opening, ring_length(opening)) {
         Ok(ledger) => ledger,
         Err(refusal) => panic!("{opening:?} refused: {refusal:?}"),
     }

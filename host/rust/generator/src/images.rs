@@ -3,8 +3,8 @@
 use crate::calls;
 use crate::random::Random;
 use independent::image::{Fields, HEAD};
-use independent::rules::{KNOWN, NO_PARENT};
-use independent::{Kind, Known, Ledger, Opening};
+use independent::rules::NO_PARENT;
+use independent::{Kind, Ledger, Opening};
 
 /// The settings of a book without entries and with no period marked; an image of them loads, whatever their threshold.
 pub fn settings(random: &mut Random) -> Opening {
@@ -37,7 +37,7 @@ pub fn begun(random: &mut Random) -> Ledger {
 /// A ledger that begins with an image of a book of these settings.
 pub fn begun_with(random: &mut Random, settings: &Opening) -> Ledger {
     let image = blank_of(random, settings);
-    match Ledger::begin_by(Known::Link, &image, calls::ring_length(settings)) {
+    match Ledger::begin(&image, calls::ring_length(settings)) {
         Ok(Some(ledger)) => ledger,
         refused => panic!("{settings:?}: {refused:?}"),
     }
@@ -48,7 +48,8 @@ pub fn listed(random: &mut Random) -> Vec<u8> {
     let begun = begun(random);
     let length = random.below(14);
     let (_, ledger) = calls::list(random, &begun, length);
-    ledger.image()
+    let kind = calls::image_kind(random, ledger.shape());
+    ledger.image_by(kind)
 }
 
 /// A valid image put together field by field; many of these no list leads to.
@@ -115,8 +116,8 @@ fn prices_wanted(image: &[u8]) -> usize {
 
 /// Where the prices of an image of its kind begin.
 fn head(image: &[u8]) -> usize {
-    match (KNOWN, &image[4..6]) {
-        (Known::Link, [2, 0]) => Kind::Two.head(),
+    match image[4..6] {
+        [2, 0] => Kind::Two.head(),
         _ => HEAD,
     }
 }
@@ -146,7 +147,12 @@ fn damage_field(random: &mut Random, image: &mut [u8]) {
     let highest = 100_000_000_000i64;
     match random.below(16) {
         0 => put(image, 0, 4, image.len() as i64 + random.between(-1, 1)),
-        1 => put(image, 4, 2, random.pick(&[0, 1, 2, 256, 257, 65_535])),
+        1 => put(
+            image,
+            4,
+            2,
+            random.pick(&[0, 1, 2, 3, 256, 257, 258, 65_535]),
+        ),
         2 => put(
             image,
             6,
@@ -232,7 +238,8 @@ fn damage_field(random: &mut Random, image: &mut [u8]) {
             random.pick(&[0, 1, 2, 255]),
         ),
         _ => {
-            let prices = (image.len() - HEAD) / 4;
+            let head = head(image);
+            let prices = image.len().saturating_sub(head) / 4;
             if prices > 0 {
                 let menu = [
                     -1,
@@ -244,7 +251,7 @@ fn damage_field(random: &mut Random, image: &mut [u8]) {
                     i64::from(i32::MIN),
                     i64::from(i32::MAX),
                 ];
-                let place = HEAD + 4 * random.below(prices);
+                let place = head + 4 * random.below(prices);
                 put(image, place, 4, random.pick(&menu));
             }
         }
@@ -272,7 +279,7 @@ fn damage_byte(random: &mut Random, image: &mut [u8]) {
 /// Cut short: at any place, or near the head's end.
 fn cut(random: &mut Random, image: &mut Vec<u8>) {
     let length = if random.chance(30) {
-        random.between(144, 152) as usize
+        random.between(144, 160) as usize
     } else {
         random.below(image.len() + 1)
     };
@@ -292,7 +299,7 @@ pub fn scrambled(random: &mut Random) -> Vec<u8> {
     let mut image: Vec<u8> = (0..length).map(|_| random.word() as u8).collect();
     if random.chance(70) {
         mend_length(&mut image);
-        put(&mut image, 4, 2, 1);
+        put(&mut image, 4, 2, random.pick(&[1, 2]));
     }
     if random.chance(50) {
         let head = image.len().min(HEAD);
@@ -308,7 +315,7 @@ pub fn scrambled(random: &mut Random) -> Vec<u8> {
 /// A damaged copy: one to three damages, the length field or the whole length mended or not.
 pub fn damaged(random: &mut Random, image: &[u8]) -> Vec<u8> {
     let mut image = image.to_vec();
-    if KNOWN == Known::Link && random.chance(30) {
+    if random.chance(30) {
         image = damaged_link(random, &image);
     }
     for _ in 0..random.pick(&[1, 1, 1, 2, 3]) {

@@ -7,7 +7,7 @@ use crate::random::Random;
 use independent::book::Book;
 use independent::image::Fields;
 use independent::interval::Interval;
-use independent::rules::{Known, Shape, NO_END, NO_PARENT};
+use independent::rules::{Shape, NO_END, NO_PARENT};
 
 /// A reading: the slices lent to it hold what they hold before.
 #[derive(Clone, Debug, PartialEq, Eq)]
@@ -62,7 +62,7 @@ pub fn book(random: &mut Random) -> Book {
     if random.chance(25) {
         let image = images::composed(random);
         let mut ring = vec![0; Fields::read(&image).shape().ring()];
-        return Book::load_by(Known::Link, &image, &mut ring).expect("a valid image");
+        return Book::load(&image, &mut ring).expect("a valid image");
     }
     let mut opening = calls::opening(random);
     opening.regions = random.between(1, 8) as u32;

@@ -1,4 +1,4 @@
-//! Lists for a replay: records and the lengths of the lent slices, valid and damaged.
+//! Lists for a replay: records and the lengths of the lent slices, valid and damaged. Their openings have no additional link.
 
 use crate::calls;
 use crate::random::Random;
@@ -22,6 +22,7 @@ pub fn list(random: &mut Random, length: usize) -> List {
         2 => calls::damaged_settings(random),
         _ => calls::opening(random),
     };
+    let opening = calls::unlinked(opening);
     let mut list = List {
         records: vec![Record::Opening(opening_record(&opening))],
         lent: lent(random, &opening),
@@ -41,6 +42,7 @@ pub fn list(random: &mut Random, length: usize) -> List {
 
 /// A list over a valid opening with whole records and as much of everything as any of its calls may ask for.
 pub fn roomy(random: &mut Random, opening: &Opening, length: usize) -> List {
+    let opening = &calls::unlinked(*opening);
     let mut list = List {
         records: vec![Record::Opening(opening_record(opening))],
         lent: ample(opening),
@@ -139,7 +141,7 @@ fn add_calls(random: &mut Random, list: &mut List, opening: &Opening, length: us
     let places = calls::ring_length(opening).min(list.lent.ring);
     let mut ledger = match Ledger::open(opening, places) {
         Ok(ledger) => ledger,
-        Err(_) => calls::opened(random),
+        Err(_) => calls::opened_unlinked(random),
     };
     for _ in 0..length {
         let call = match random.below(100) {
@@ -312,7 +314,7 @@ pub fn any_bytes(random: &mut Random, length: usize) -> Vec<u8> {
 
 /// Random bytes, or records of random contents whose kinds and lengths are often right.
 pub fn scrambled(random: &mut Random) -> List {
-    let opening = calls::opening(random);
+    let opening = calls::unlinked(calls::opening(random));
     let mut records = Vec::new();
     if random.chance(70) {
         records.push(Record::Opening(opening_record(&opening)));

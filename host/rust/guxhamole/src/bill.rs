@@ -42,7 +42,7 @@ impl Book {
     /// let (mut ring, mut work) = ([0], [0]);
     /// let book = Book::open(settings, &mut ring)?;
     ///
-    /// let mut day = [0; 2 * guxhamole::interval_length(1, 0)];
+    /// let mut day = [0; 2 * guxhamole::interval_length(1, 0, guxhamole::NONE)];
     /// let first = Interval { number: 0, day_kind: 0, prices: &[100_000], marks: &[0], flows: &[0], factors: &[0] };
     /// let at = book.write_interval(first, &mut day)?;
     /// book.write_interval(Interval { number: 1, prices: &[70_000], ..first }, &mut day[at..])?;

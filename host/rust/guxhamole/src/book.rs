@@ -1,7 +1,8 @@
 //! The book that a host keeps, what it is opened with, what an entry lends and what a report gives.
 
-use crate::{image_length, interval_length, prices_length, raw, ring_length, schedule_length};
-use crate::{Refusal, BOOK_LENGTH, IMAGE_HEAD};
+use crate::{flows_length, image_length, interval_length, prices_length};
+use crate::{raw, ring_length, schedule_length};
+use crate::{Refusal, BOOK_LENGTH, IMAGE_HEAD, IMAGE_HEAD_KIND_1, NONE};
 
 /// What a book is opened with. The default is the real market: five linked regions, ten services, a week's window, half-hours of
 /// a whole day.
@@ -19,6 +20,10 @@ pub struct Settings {
     pub first: u16,
     /// Of each region a lower region linked to it, or 255 for none; region 0 and places from R up hold 255.
     pub parents: [u8; 8],
+    /// The first named end of the additional link, a region that is not linked to the second one already; or 255 for no such link.
+    pub from: u8,
+    /// The second one, likewise. Their order only gives the link's flow its sign.
+    pub to: u8,
     /// Cents, 10,000..100,000,000,000, a multiple of 10,000. Only an image may hold another one, from 1 on.
     pub threshold: i64,
     /// Cents, 1..10,000,000.
@@ -37,6 +42,8 @@ impl Settings {
         halves: 48,
         first: 0,
         parents: [255, 0, 0, 2, 2, 255, 255, 255],
+        from: NONE,
+        to: NONE,
         threshold: 182_360_000,
         cap: 60_000,
         floor: -60_000,
@@ -60,9 +67,10 @@ pub struct Entry<'a> {
     pub prices: &'a [i32],
     /// R marks: 1 where the region is priced by schedule.
     pub marks: &'a [u8],
-    /// R flows: above 0 power goes from a region to its parent, below 0 from the parent, at 0 not at all.
+    /// R flows: above 0 power goes from a region to its parent, below 0 from the parent, at 0 not at all. Where the book has the
+    /// additional link R + 1: the last is that link's, above 0 from its first named end to the second.
     pub flows: &'a [i32],
-    /// R loss factors in ten-thousandths, 10,000..20,000 where the region has a parent.
+    /// As many loss factors in ten-thousandths, 10,000..20,000 where the region has a parent; that of the additional link always.
     pub factors: &'a [u32],
     /// R × M × 2 × H prices: a region's market's half-hours of weekdays, then those of weekends and holidays.
     pub schedule: &'a [i32],
@@ -101,6 +109,12 @@ impl Book {
     /// // A digit too few: thresholds are whole hundreds of dollars.
     /// let slip = Settings { threshold: 18_236_000, ..Settings::default() };
     /// assert_eq!(Book::open(slip, &mut ring), Err(Refusal::Hundreds));
+    ///
+    /// // A line that closes a ring of regions 0, 2 and 1; regions 2 and 0 are linked already.
+    /// let ring_of_three = Settings { from: 1, to: 2, ..Settings::default() };
+    /// assert_eq!(Book::open(ring_of_three, &mut ring)?.flows_length(), 6);
+    /// let twice = Settings { from: 2, to: 0, ..Settings::default() };
+    /// assert_eq!(Book::open(twice, &mut ring), Err(Refusal::Setting));
     /// # Ok::<(), Refusal>(())
     /// ```
     pub fn open(settings: Settings, ring: &mut [i32]) -> Result<Book, Refusal> {
@@ -111,6 +125,8 @@ impl Book {
             halves: settings.halves,
             first: settings.first,
             parents: settings.parents,
+            from: settings.from,
+            to: settings.to,
             threshold: settings.threshold,
             cap: settings.cap,
             floor: settings.floor,
@@ -246,7 +262,8 @@ impl Book {
         Ok(left.intervals)
     }
 
-    /// Writes the book and its counted prices as an image: its length in bytes. The bytes after it stay. 10, 11, 22, 23.
+    /// Writes the book and its counted prices as an image of kind 2, which tells every book: its length in bytes. The bytes after it
+    /// stay. 10, 11, 22, 23.
     ///
     /// ```
     /// # use guxhamole::{Book, Refusal, Settings};
@@ -262,13 +279,30 @@ impl Book {
     /// # Ok::<(), Refusal>(())
     /// ```
     pub fn store(&self, ring: &[i32], image: &mut [u8]) -> Result<usize, Refusal> {
-        let stored = raw::store(self.0, ring, image);
-        Refusal::unless_accepted(stored.number, 0)?;
-        Ok(stored.length as usize)
+        stored_in(raw::store_kind_2(self.0, ring, image))
     }
 
-    /// Loads an image, exactly its bytes, into a ring of R × M × W places: 24, 25, 26, 27, 11, 16. The threshold that it holds, any from
-    /// 1 to 100,000,000,000, stays until the next setting.
+    /// The same as an image of kind 1, eight bytes shorter, for those who read no other; a book with the additional link has none. What
+    /// was loaded from an image of kind 1 is stored to the very bytes of that image. 10, 11, 22, 47, 23.
+    ///
+    /// ```
+    /// # use guxhamole::{Book, Refusal, Settings};
+    /// # let mut ring = vec![0; guxhamole::ring_length(5, 10, 2_016)];
+    /// let book = Book::open(Settings::default(), &mut ring)?;
+    /// let mut buffer = [0; 148];
+    /// assert_eq!(book.store_kind_1(&ring, &mut buffer), Ok(148));
+    /// assert_eq!(Book::load(&buffer, &mut vec![0; ring.len()]), Ok(book));
+    ///
+    /// let linked = Book::open(Settings { from: 1, to: 2, ..Settings::default() }, &mut ring)?;
+    /// assert_eq!(linked.store_kind_1(&ring, &mut buffer), Err(Refusal::ImageFirst));
+    /// # Ok::<(), Refusal>(())
+    /// ```
+    pub fn store_kind_1(&self, ring: &[i32], image: &mut [u8]) -> Result<usize, Refusal> {
+        stored_in(raw::store(self.0, ring, image))
+    }
+
+    /// Loads an image of either kind, exactly its bytes, into a ring of R × M × W places: 24, 25, 26, 27, 11, 16. The threshold that it
+    /// holds, any from 1 to 100,000,000,000, stays until the next setting. Kind 1 loads as having no additional link.
     ///
     /// ```
     /// use guxhamole::{Book, Refusal, Settings};
@@ -277,7 +311,7 @@ impl Book {
     ///
     /// // The image of a book at 950 dollars, from before thresholds were whole hundreds.
     /// let settings = Settings { regions: 1, services: 0, window: 1, parents: [255; 8], ..Settings::default() };
-    /// let (mut ring, mut image) = ([0], [0; 148]);
+    /// let (mut ring, mut image) = ([0], [0; guxhamole::IMAGE_HEAD]);
     /// Book::open(settings, &mut ring)?.store(&ring, &mut image)?;
     /// image[28..36].copy_from_slice(&95_000i64.to_le_bytes());
     ///
@@ -328,6 +362,11 @@ impl Book {
         self.0.parents
     }
 
+    /// The first and the second named end of the additional link; 255 and 255 where the book has none.
+    pub fn ends(&self) -> (u8, u8) {
+        (self.0.from, self.0.to)
+    }
+
     /// The threshold at the next entry.
     pub fn threshold(&self) -> i64 {
         self.0.threshold
@@ -367,6 +406,11 @@ impl Book {
         prices_length(self.0.regions.into(), self.0.services.into())
     }
 
+    /// Places of an entry's flows, and of its factors.
+    pub fn flows_length(&self) -> usize {
+        flows_length(self.0.regions.into(), self.0.from)
+    }
+
     /// Places of an entry's schedule.
     pub fn schedule_length(&self) -> usize {
         schedule_length(
@@ -378,16 +422,26 @@ impl Book {
 
     /// Bytes of an interval's records.
     pub fn interval_length(&self) -> usize {
-        interval_length(self.0.regions.into(), self.0.services.into())
+        interval_length(self.0.regions.into(), self.0.services.into(), self.0.from)
     }
 
     /// Bytes of the book's image as it is now.
     pub fn stored_length(&self) -> usize {
-        let counts: usize = self.0.counts.iter().map(|&count| usize::from(count)).sum();
-        IMAGE_HEAD + 4 * (usize::from(self.0.services) + 1) * counts
+        IMAGE_HEAD + self.counted_bytes()
     }
 
-    /// Bytes of the book's image once its windows are full.
+    /// Bytes of its image of kind 1.
+    pub fn stored_length_kind_1(&self) -> usize {
+        IMAGE_HEAD_KIND_1 + self.counted_bytes()
+    }
+
+    /// Bytes of an image's prices.
+    fn counted_bytes(&self) -> usize {
+        let counts: usize = self.0.counts.iter().map(|&count| usize::from(count)).sum();
+        4 * (usize::from(self.0.services) + 1) * counts
+    }
+
+    /// Bytes of the book's image once its windows are full; those of kind 1 are eight fewer.
     pub fn longest_image(&self) -> usize {
         image_length(
             self.0.regions.into(),
@@ -432,6 +486,8 @@ impl Book {
             window: u16_at(2),
             halves: bytes[4],
             parents: part(bytes, 5),
+            from: bytes[13],
+            to: bytes[14],
             threshold: i64::from_le_bytes(part(bytes, 16)),
             cap: i32::from_le_bytes(part(bytes, 24)),
             floor: i32::from_le_bytes(part(bytes, 28)),
@@ -453,6 +509,7 @@ impl Book {
         put(2, &book.window.to_le_bytes());
         put(4, &[book.halves]);
         put(5, &book.parents);
+        put(13, &[book.from, book.to]);
         put(16, &book.threshold.to_le_bytes());
         put(24, &book.cap.to_le_bytes());
         put(28, &book.floor.to_le_bytes());
@@ -468,6 +525,12 @@ impl Book {
         put(776, &book.marks);
         bytes
     }
+}
+
+/// The length of an image.
+fn stored_in(stored: raw::Stored) -> Result<usize, Refusal> {
+    Refusal::unless_accepted(stored.number, 0)?;
+    Ok(stored.length as usize)
 }
 
 /// The bytes from a place on.

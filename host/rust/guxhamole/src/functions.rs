@@ -3,7 +3,7 @@
 use crate::{raw, Refusal};
 
 /// The version of the C face that this crate was written for.
-pub const ABI: u32 = 1;
+pub const ABI: u32 = 2;
 
 /// The archive's version; where it isn't [`ABI`], crate and archive do not belong together.
 ///
@@ -14,7 +14,7 @@ pub fn abi() -> u32 {
     raw::abi()
 }
 
-/// Whether a load would take these bytes, whatever the ring's length: 24, 25, 26, 27, 16, whose place is 0 here.
+/// Whether a load would take these bytes, of either kind, whatever the ring's length: 24, 25, 26, 27, 16, whose place is 0 here.
 ///
 /// ```
 /// use guxhamole::Refusal;
@@ -93,7 +93,8 @@ pub fn amount_text(cents: i64, buffer: &mut [u8]) -> Result<&str, Refusal> {
 }
 
 /// Plays a list of calls from its opening on, as docs/RECORDS.md says: how many of the answers' bytes were written. A running
-/// box calls [`crate::Book`]; this is for lists that are played whole.
+/// box calls [`crate::Book`]; this is for lists that are played whole. Their openings have no additional link, and their restarts go by
+/// images of kind 1.
 ///
 /// ```
 /// // No opening stands first: nothing is played.

@@ -14,9 +14,9 @@ pub struct Interval<'a> {
     pub prices: &'a [i32],
     /// R marks: 1 where the region is priced by schedule; records take any.
     pub marks: &'a [u8],
-    /// R flows.
+    /// R flows; where the book has the additional link R + 1, the last that link's.
     pub flows: &'a [i32],
-    /// R loss factors in ten-thousandths.
+    /// As many loss factors in ten-thousandths.
     pub factors: &'a [u32],
 }
 
@@ -27,9 +27,9 @@ pub struct IntervalMut<'a> {
     pub prices: &'a mut [i32],
     /// R marks.
     pub marks: &'a mut [u8],
-    /// R flows.
+    /// R flows, or R + 1.
     pub flows: &'a mut [i32],
-    /// R loss factors in ten-thousandths.
+    /// As many loss factors in ten-thousandths.
     pub factors: &'a mut [u32],
 }
 
@@ -46,8 +46,8 @@ pub struct Found {
 
 /// Interval records; the book says how many regions and markets they have, and stays.
 impl Book {
-    /// Reads the interval whose head stands at a place of the records, its regions in number order: 10, 11, then record by record
-    /// 40, 41, 45. No range is tested, which is the entry's part, and what follows the interval isn't looked at. So one entry has one
+    /// Reads the interval whose head stands at a place of the records, its regions in number order, and behind them, exactly where the
+    /// book has it, the additional link: 10, 11, then record by record 40, 41, 45. No range is tested, which is the entry's part, and what follows the interval isn't looked at. So one entry has one
     /// form: two places that read to the same entry hold the same bytes.
     ///
     /// Written, read back and entered:
@@ -69,7 +69,7 @@ impl Book {
     ///     flows: &[0, 1],
     ///     factors: &[0, 11_000],
     /// };
-    /// let mut records = [0; guxhamole::interval_length(2, 0)];
+    /// let mut records = [0; guxhamole::interval_length(2, 0, guxhamole::NONE)];
     /// assert_eq!(book.write_interval(interval, &mut records), Ok(52));
     ///
     /// let (mut prices, mut marks, mut flows, mut factors) = ([0; 2], [0; 2], [0; 2], [0; 2]);
@@ -111,7 +111,7 @@ impl Book {
         })
     }
 
-    /// Writes an interval's records from the buffer's start on, regions upward: their length in bytes, which is
+    /// Writes an interval's records from the buffer's start on, regions upward, then the additional link's: their length in bytes, which is
     /// [`Book::interval_length`]. The bytes after them stay. 10, 11, 23.
     ///
     /// ```
@@ -143,7 +143,8 @@ impl Book {
     }
 
     /// Takes the interval of the earlier form, its regions in any order, whose head stands at a place of the records, and writes it from
-    /// the buffer's start on with its regions in number order, each record as it stood: the place after the interval taken. The bytes
+    /// the buffer's start on with its regions in number order, each record as it stood, the additional link's too: the place after the
+    /// interval taken. The bytes
     /// written are [`Book::interval_length`], those after them stay. 10, 23, then record by record 40, 41, 42; no range is tested. An
     /// interval that reads is rewritten to itself.
     ///
@@ -169,7 +170,7 @@ impl Book {
     ///
     /// let (mut at, mut later) = (0, Vec::new());
     /// while at < earlier.len() {
-    ///     let mut buffer = [0; guxhamole::interval_length(2, 0)];
+    ///     let mut buffer = [0; guxhamole::interval_length(2, 0, guxhamole::NONE)];
     ///     at = book.rewrite_interval(&earlier, at, &mut buffer)?;
     ///     later.extend(buffer);
     /// }

@@ -16,6 +16,8 @@ pub struct Settings {
     pub halves: u8,
     pub first: u16,
     pub parents: [u8; 8],
+    pub from: u8,
+    pub to: u8,
     pub threshold: i64,
     pub cap: i32,
     pub floor: i32,
@@ -31,6 +33,8 @@ pub struct Book {
     pub window: u16,
     pub halves: u8,
     pub parents: [u8; 8],
+    pub from: u8,
+    pub to: u8,
     pub threshold: i64,
     pub cap: i32,
     pub floor: i32,
@@ -149,14 +153,16 @@ pub struct Rows {
 // The layout that the archive was compiled with.
 const _: () = {
     assert!(size_of::<usize>() == 8);
-    assert!(size_of::<Settings>() == 32);
+    assert!(size_of::<Settings>() == 40);
     assert!(offset_of!(Settings, services) == 1 && offset_of!(Settings, window) == 2);
     assert!(offset_of!(Settings, halves) == 4 && offset_of!(Settings, first) == 6);
-    assert!(offset_of!(Settings, parents) == 8 && offset_of!(Settings, threshold) == 16);
-    assert!(offset_of!(Settings, cap) == 24 && offset_of!(Settings, floor) == 28);
+    assert!(offset_of!(Settings, parents) == 8 && offset_of!(Settings, from) == 16);
+    assert!(offset_of!(Settings, to) == 17 && offset_of!(Settings, threshold) == 24);
+    assert!(offset_of!(Settings, cap) == 32 && offset_of!(Settings, floor) == 36);
     assert!(size_of::<Book>() == BOOK_LENGTH);
     assert!(offset_of!(Book, services) == 1 && offset_of!(Book, window) == 2);
     assert!(offset_of!(Book, halves) == 4 && offset_of!(Book, parents) == 5);
+    assert!(offset_of!(Book, from) == 13 && offset_of!(Book, to) == 14);
     assert!(offset_of!(Book, threshold) == 16 && offset_of!(Book, cap) == 24);
     assert!(offset_of!(Book, floor) == 28 && offset_of!(Book, entries) == 32);
     assert!(offset_of!(Book, position) == 36 && offset_of!(Book, counts) == 38);
@@ -193,6 +199,8 @@ impl Book {
         window: 0,
         halves: 0,
         parents: [0; 8],
+        from: 0,
+        to: 0,
         threshold: 0,
         cap: 0,
         floor: 0,
@@ -234,6 +242,13 @@ mod face {
             table: *mut i32,
             table_length: usize,
         ) -> Entered;
+        pub fn guxhamole_store_kind_2(
+            book: Book,
+            ring: *const i32,
+            ring_length: usize,
+            image: *mut u8,
+            image_length: usize,
+        ) -> Stored;
         pub fn guxhamole_store(
             book: Book,
             ring: *const i32,
@@ -427,7 +442,14 @@ pub fn enter(book: Book, ring: &mut [i32], entry: crate::Entry<'_>, table: &mut 
     }
 }
 
-/// "Store: 10; 11; 22 …; 23 buffer shorter than the image."
+/// "Store: 10; 11; 22 …; 23 buffer shorter than the image." By kind 2, which tells every book.
+pub fn store_kind_2(book: Book, ring: &[i32], image: &mut [u8]) -> Stored {
+    let (buffer, length) = (image.as_mut_ptr(), image.len());
+    // SAFETY: the slices are as said above.
+    unsafe { face::guxhamole_store_kind_2(book, ring.as_ptr(), ring.len(), buffer, length) }
+}
+
+/// By kind 1: the same, and "47: storing as kind 1 a book with the link; after 22".
 pub fn store(book: Book, ring: &[i32], image: &mut [u8]) -> Stored {
     let (buffer, length) = (image.as_mut_ptr(), image.len());
     // SAFETY: the slices are as said above.

@@ -30,13 +30,13 @@ pub enum Refusal {
     /// 16: a price is out of its market's range; its place in the lent prices, or among the image's. The image check names no
     /// place and says 0.
     Price(usize),
-    /// 17: the factor of a region that has a parent is out of range; the region.
+    /// 17: the factor of a region that has a parent, or of the additional link, is out of range; the region, or R for that link.
     Factor(usize),
     /// 18: the threshold is out of range.
     Threshold,
     /// 19: the cap or the floor.
     Limits,
-    /// 20: a setting of the opening.
+    /// 20: a setting of the opening; also ends of an additional link that are no two regions, or two that are linked already.
     Setting,
     /// 21: the region or the market of a report, or of a question for the intervals left; a bill's region.
     Market,
@@ -44,13 +44,13 @@ pub enum Refusal {
     Sums,
     /// 23: the buffer is shorter than the image, or than the interval's records.
     Buffer,
-    /// 24: fewer than 148 bytes, or a length field that isn't the image's length.
+    /// 24: fewer than 148 bytes, of kind 2 fewer than 156, or a length field that isn't the image's length.
     ImageLength,
-    /// 25: the image's kind.
+    /// 25: the image's kind is neither 1 nor 2.
     ImageKind,
-    /// 26: a field of the image.
+    /// 26: a field of the image's bytes 6 to 147, of kind 2 to 155.
     ImageField,
-    /// 27: the image's length is not what its counts ask for.
+    /// 27: the image's length is not what its kind and counts ask for.
     ImageTotal,
     /// 30: an argument of the index.
     Index,
@@ -76,6 +76,8 @@ pub enum Refusal {
     RecordOrder,
     /// 46: the kilowatt-hours of a bill's line are above 1,000,000,000; the line.
     BilledEnergy(usize),
+    /// 47: a book with the additional link cannot be stored by kind 1; [`crate::Book::store`] stores every book.
+    ImageFirst,
     /// A number that this crate doesn't know: the archive is a later one ([`crate::abi`]).
     Other(u32),
 }
@@ -114,6 +116,7 @@ impl Refusal {
             44 => Refusal::Hundreds,
             45 => Refusal::RecordOrder,
             46 => Refusal::BilledEnergy(place),
+            47 => Refusal::ImageFirst,
             _ => Refusal::Other(number),
         }
     }
@@ -150,17 +153,20 @@ impl Refusal {
             Refusal::DayKind => (14, "a day kind that is neither 0 nor 1"),
             Refusal::Mark(_) => (15, "a mark that is neither 0 nor 1"),
             Refusal::Price(_) => (16, "a price out of its market's range"),
-            Refusal::Factor(_) => (17, "a factor out of range"),
+            Refusal::Factor(_) => (17, "a link's factor out of range"),
             Refusal::Threshold => (18, "a threshold out of range"),
             Refusal::Limits => (19, "a cap or floor out of range"),
-            Refusal::Setting => (20, "a setting out of range"),
+            Refusal::Setting => (20, "a setting out of range, or ends that cannot be linked"),
             Refusal::Market => (21, "no such region or market"),
             Refusal::Sums => (22, "the ring is not the book's"),
             Refusal::Buffer => (23, "a buffer shorter than the image or the interval"),
             Refusal::ImageLength => (24, "the image was cut, or is none"),
-            Refusal::ImageKind => (25, "no image of a book"),
+            Refusal::ImageKind => (25, "no image of a book, of kind 1 or 2"),
             Refusal::ImageField => (26, "a field of the image outside its limits"),
-            Refusal::ImageTotal => (27, "an image of another length than its counts ask for"),
+            Refusal::ImageTotal => (
+                27,
+                "an image of another length than its kind and counts ask for",
+            ),
             Refusal::Index => (30, "an argument of the index out of range"),
             Refusal::MakerSizes => (31, "half-hours or lengths of the schedule maker"),
             Refusal::MakerKinds => (32, "day kinds of the schedule maker"),
@@ -178,6 +184,7 @@ impl Refusal {
             Refusal::Hundreds => (44, "a threshold that is no multiple of 10,000 cents"),
             Refusal::RecordOrder => (45, "a region's record that isn't the next region's"),
             Refusal::BilledEnergy(_) => (46, "a line's kilowatt-hours above 1,000,000,000"),
+            Refusal::ImageFirst => (47, "a book with the additional link, stored by kind 1"),
             Refusal::Other(number) => (number, "a refusal of a later archive"),
         }
     }
@@ -207,7 +214,7 @@ mod tests {
             assert_eq!(refusal.number(), number);
             let placed = (15..=17).contains(&number) || number == 46;
             assert_eq!(refusal.place(), placed.then_some(7));
-            let known = [10..=27, 30..=33, 40..=46];
+            let known = [10..=27, 30..=33, 40..=47];
             let known = known.iter().any(|numbers| numbers.contains(&number));
             assert_eq!(refusal == Refusal::Other(number), !known);
         }

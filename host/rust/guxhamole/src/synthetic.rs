@@ -15,7 +15,8 @@ pub struct Drawn {
 
 /// A test load; the book says how many regions and markets its intervals have, and stays.
 impl Book {
-    /// Draws an interval from any seed: every price, a flow and a factor for each region; the marks are 0. Number and day kind are
+    /// Draws an interval from any seed: every price, a flow and a factor for each region, and one more of both for the
+    /// additional link, where the book has it; the marks are 0. Number and day kind are
     /// not tested, and are handed back as they came. An entry takes the prices, marks and factors, whatever the seed. 10, 11.
     ///
     /// Two intervals, drawn one after the other and entered:

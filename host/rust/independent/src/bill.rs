@@ -79,14 +79,14 @@ impl Lines {
 
 /// What a day is played on: it reads intervals, and takes them as entries.
 trait Plays {
-    fn read(&self, known: Known, records: &[u8], at: usize) -> Result<(Interval, usize), Refusal>;
+    fn read(&self, records: &[u8], at: usize) -> Result<(Interval, usize), Refusal>;
     fn take(&mut self, entry: Entry, table: &mut [i32]) -> Result<u32, Refusal>;
 }
 
 /// The ledger, which never meets 10. Of rings it is told the length alone.
 impl Plays for Ledger {
-    fn read(&self, known: Known, records: &[u8], at: usize) -> Result<(Interval, usize), Refusal> {
-        interval_at(known, self.shape(), records, at)
+    fn read(&self, records: &[u8], at: usize) -> Result<(Interval, usize), Refusal> {
+        interval_at(self.shape(), records, at)
     }
 
     fn take(&mut self, entry: Entry, table: &mut [i32]) -> Result<u32, Refusal> {
@@ -102,9 +102,9 @@ struct Kept<'a> {
 
 impl Plays for Kept<'_> {
     /// The reader's 10 comes first, whatever stands at the place.
-    fn read(&self, known: Known, records: &[u8], at: usize) -> Result<(Interval, usize), Refusal> {
+    fn read(&self, records: &[u8], at: usize) -> Result<(Interval, usize), Refusal> {
         self.book.sound()?;
-        interval_at(known, &self.book.shape(), records, at)
+        interval_at(&self.book.shape(), records, at)
     }
 
     fn take(&mut self, entry: Entry, table: &mut [i32]) -> Result<u32, Refusal> {
@@ -125,16 +125,11 @@ impl Bill {
 
     /// "all refusals of the records and entries, taken interval by interval, of which 15 to 17 give the place within their own entry":
     /// every interval is read and entered, and then the lines are judged.
-    fn played(
-        &self,
-        known: Known,
-        shape: &Shape,
-        on: &mut impl Plays,
-    ) -> Result<Judgement, Refusal> {
+    fn played(&self, shape: &Shape, on: &mut impl Plays) -> Result<Judgement, Refusal> {
         let energy = shape.place(self.region as usize, 0);
         let (mut at, mut dues) = (0, Vec::new());
         while at < self.records.len() {
-            let (interval, next) = on.read(known, &self.records, at)?;
+            let (interval, next) = on.read(&self.records, at)?;
             let entry = interval.with(&self.schedule);
             let (number, mut table) = (entry.number, vec![0; shape.prices()]);
             on.take(entry, &mut table)?;
@@ -172,19 +167,9 @@ impl Ledger {
         work: usize,
         bill: &Bill,
     ) -> (Result<Judgement, Refusal>, Ledger) {
-        self.check_bill_by(KNOWN, ring, work, bill)
-    }
-
-    pub fn check_bill_by(
-        &self,
-        known: Known,
-        ring: usize,
-        work: usize,
-        bill: &Bill,
-    ) -> (Result<Judgement, Refusal>, Ledger) {
         let mut after = self.clone();
         let fits = bill.fits(self.shape(), ring, work);
-        let answer = fits.and_then(|()| bill.played(known, self.shape(), &mut after));
+        let answer = fits.and_then(|()| bill.played(self.shape(), &mut after));
         (answer, after)
     }
 }
@@ -198,16 +183,6 @@ impl Book {
         work: &mut [i32],
         bill: &Bill,
     ) -> Result<Judgement, Refusal> {
-        self.check_bill_by(KNOWN, ring, work, bill)
-    }
-
-    pub fn check_bill_by(
-        &self,
-        known: Known,
-        ring: &[i32],
-        work: &mut [i32],
-        bill: &Bill,
-    ) -> Result<Judgement, Refusal> {
         self.sound()?;
         let shape = self.shape();
         bill.fits(&shape, ring.len(), work.len())?;
@@ -216,6 +191,6 @@ impl Book {
             book: self.clone(),
             ring: work,
         };
-        bill.played(known, &shape, &mut kept)
+        bill.played(&shape, &mut kept)
     }
 }

@@ -30,12 +30,13 @@ pub struct Book {
 }
 
 /// Why a book is refused by 10: a name for each rule, to see that tests reach them all.
-pub const FAULTS: [&str; 20] = [
+pub const FAULTS: [&str; 21] = [
     "regions",
     "services",
     "window",
     "half-hours",
     "parents",
+    "ends",
     "threshold",
     "cap",
     "floor",
@@ -52,9 +53,6 @@ pub const FAULTS: [&str; 20] = [
     "mark",
     "unused mark",
 ];
-
-/// A further one, of the additional link's ends, which no compiled book has as yet.
-pub const LINK_FAULT: &str = "ends";
 
 /// "a sum beyond ±20,160,000,000"
 const MOST_SUM: i64 = 20_160_000_000;
@@ -107,12 +105,12 @@ impl Book {
             ("window", window_allowed(self.window.into())),
             ("half-hours", halves_allowed(halves)),
             ("parents", parents_allowed(&self.parents, regions)),
+            ("ends", ends),
             ("threshold", threshold_allowed(self.threshold.into())),
             ("cap", cap_allowed(self.cap.into())),
             ("floor", floor_allowed(self.floor.into())),
             ("entries taken", self.entries <= MOST_ENTRIES),
             ("position", position_allowed(self.position.into(), halves)),
-            (LINK_FAULT, ends),
         ];
         let fault = allowed.into_iter().find(|(_, allowed)| !allowed);
         fault.map(|(name, _)| name)
@@ -327,11 +325,7 @@ impl Book {
 
     /// "Loading puts the oldest at the window's first place, zeroes the others and adds the sums up anew."
     pub fn load(bytes: &[u8], ring: &mut [i32]) -> Result<Book, Refusal> {
-        Book::load_by(KNOWN, bytes, ring)
-    }
-
-    pub fn load_by(known: Known, bytes: &[u8], ring: &mut [i32]) -> Result<Book, Refusal> {
-        image::first_refusal_by(known, bytes, Some(ring.len()))?;
+        image::first_refusal(bytes, Some(ring.len()))?;
         let fields = Fields::read(bytes);
         let shape = fields.shape();
         let mut book = Book {

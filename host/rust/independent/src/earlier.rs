@@ -3,7 +3,7 @@
 //! looks at no number in them but the region's. The additional link's record (request 2026-10) stands after the last of them here too.
 
 use crate::book::Book;
-use crate::interval::{in_order, Front, Interval, Kinds, HEAD, LINK, REGION};
+use crate::interval::{in_order, known_length, Front, Interval, HEAD, LINK, REGION};
 use crate::rules::*;
 use std::collections::BTreeMap;
 
@@ -16,27 +16,17 @@ impl Book {
         at: usize,
         lent: &mut Interval,
     ) -> Result<usize, Refusal> {
-        self.read_earlier_by(KNOWN, records, at, lent)
-    }
-
-    pub fn read_earlier_by(
-        &self,
-        known: Known,
-        records: &[u8],
-        at: usize,
-        lent: &mut Interval,
-    ) -> Result<usize, Refusal> {
         self.sound()?;
-        let (shape, kinds) = (self.shape(), self.shape().kinds(known));
+        let (shape, markets) = (self.shape(), self.shape().markets());
         unless(lent.fits(&shape), 11)?;
         let mut front = Front::at(records, at);
-        let mut body = front.due(HEAD, kinds)?;
+        let mut body = front.due(HEAD, markets)?;
         let (number, kind) = (u32::from_le_bytes(body.field()), body.byte());
         // "or a region total in the head, that doesn't belong there"
         unless(usize::from(body.byte()) == shape.regions, 41)?;
         let mut bodies = BTreeMap::new();
         for _ in 0..shape.regions {
-            let mut body = front.due(REGION, kinds)?;
+            let mut body = front.due(REGION, markets)?;
             let region = usize::from(body.byte());
             // "42: a region from R up or given before"
             unless(region < shape.regions, 42)?;
@@ -45,9 +35,9 @@ impl Book {
         let mut interval = Interval {
             number,
             kind,
-            ..in_order(bodies.into_values(), shape.markets())
+            ..in_order(bodies.into_values(), markets)
         };
-        front.link(&shape, kinds, &mut interval)?;
+        front.link(&shape, &mut interval)?;
         *lent = interval;
         Ok(records.len() - front.rest.len())
     }
@@ -60,29 +50,22 @@ impl Book {
         at: usize,
         buffer: &mut [u8],
     ) -> Result<usize, Refusal> {
-        self.rewrite_interval_by(KNOWN, records, at, buffer)
-    }
-
-    pub fn rewrite_interval_by(
-        &self,
-        known: Known,
-        records: &[u8],
-        at: usize,
-        buffer: &mut [u8],
-    ) -> Result<usize, Refusal> {
         self.sound()?;
-        let (shape, kinds) = (self.shape(), self.shape().kinds(known));
+        let (shape, markets) = (self.shape(), self.shape().markets());
         let link = shape.link.map(|_| LINK);
         let due = std::iter::once(HEAD).chain(vec![REGION; shape.regions]);
-        let needed = due.chain(link).filter_map(|kind| kinds.length(kind)).sum();
+        let lengths = due
+            .chain(link)
+            .filter_map(|kind| known_length(kind, markets));
+        let needed = lengths.sum();
         unless(buffer.len() >= needed, 23)?;
         let mut front = Front::at(records, at);
-        let (head, mut body) = front.whole(HEAD, kinds)?;
+        let (head, mut body) = front.whole(HEAD, markets)?;
         let (_number, _day_kind) = (body.field::<4>(), body.byte());
         unless(usize::from(body.byte()) == shape.regions, 41)?;
         let mut given: Vec<(u8, &[u8])> = Vec::new();
         for _ in 0..shape.regions {
-            let (record, mut body) = front.whole(REGION, kinds)?;
+            let (record, mut body) = front.whole(REGION, markets)?;
             let region = body.byte();
             let before = given.iter().any(|(earlier, _)| *earlier == region);
             unless(usize::from(region) < shape.regions && !before, 42)?;
@@ -93,7 +76,7 @@ impl Book {
         let mut written = vec![head];
         written.extend(given.into_iter().map(|(_, record)| record));
         if link.is_some() {
-            written.push(front.whole(LINK, kinds)?.0);
+            written.push(front.whole(LINK, markets)?.0);
         }
         let written = written.concat();
         buffer[..written.len()].copy_from_slice(&written);
@@ -103,9 +86,9 @@ impl Book {
 
 impl<'a> Front<'a> {
     /// The record of the kind that is due, all its bytes, and its body.
-    fn whole(&mut self, kind: u16, kinds: Kinds) -> Result<(&'a [u8], Front<'a>), Refusal> {
+    fn whole(&mut self, kind: u16, markets: usize) -> Result<(&'a [u8], Front<'a>), Refusal> {
         let before = self.rest;
-        let body = self.due(kind, kinds)?;
+        let body = self.due(kind, markets)?;
         Ok((&before[..before.len() - self.rest.len()], body))
     }
 }

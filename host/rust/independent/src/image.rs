@@ -50,18 +50,18 @@ impl Kind {
         }
     }
 
-    /// The kind that a field names, to a call that knows it.
-    fn named(known: Known, number: u64) -> Option<Kind> {
-        match (number, known) {
-            (1, _) => Some(Kind::One),
-            (2, Known::Link) => Some(Kind::Two),
+    /// The kind that a field names.
+    fn named(number: u64) -> Option<Kind> {
+        match number {
+            1 => Some(Kind::One),
+            2 => Some(Kind::Two),
             _ => None,
         }
     }
 
     /// The kind that at least 148 bytes are read by: kind 2 where they name it and have its head, else kind 1.
     fn of(bytes: &[u8]) -> Kind {
-        let named = Kind::named(Known::Link, number(bytes, 4, 2));
+        let named = Kind::named(number(bytes, 4, 2));
         let whole = named.filter(|kind| bytes.len() >= kind.head());
         whole.unwrap_or(Kind::One)
     }
@@ -89,9 +89,9 @@ impl Kind {
 }
 
 impl Fields {
-    /// The image of kind 1.
+    /// The image of the first kind that holds the book.
     pub fn bytes(&self) -> Vec<u8> {
-        self.bytes_by(Kind::One)
+        self.bytes_by(Kind::holding(&self.shape()))
     }
 
     /// "Little-endian. 0: length, 4 bytes. 4: kind 1, 2 bytes. 6: R. 7: S. 8: W, 2 bytes. 10: H. 11: zero. 12: parents.
@@ -288,7 +288,7 @@ impl Fields {
 }
 
 /// Why an image is refused by 26: a name for each rule, to see that tests reach them all.
-pub const HEAD_FAULTS: [&str; 18] = [
+pub const HEAD_FAULTS: [&str; 21] = [
     "byte 11",
     "bytes 26 and 27",
     "regions",
@@ -307,10 +307,10 @@ pub const HEAD_FAULTS: [&str; 18] = [
     "period",
     "period of an unused region",
     "period of an unused market",
+    "ends",
+    "bytes 150 and 151",
+    "bytes 152 to 155",
 ];
-
-/// Further ones, of bytes 148 to 155 of kind 2, which no compiled function knows as yet.
-pub const LINK_FAULTS: [&str; 3] = ["ends", "bytes 150 and 151", "bytes 152 to 155"];
 
 /// The first fault that 26 names, of at least 148 bytes.
 pub fn head_fault(bytes: &[u8]) -> Option<&'static str> {
@@ -324,7 +324,7 @@ pub fn head_fault(bytes: &[u8]) -> Option<&'static str> {
     fields.fault().or_else(|| link_fault(bytes, &fields))
 }
 
-/// "26 bytes 148 to 155" (request 2026-10): one of `LINK_FAULTS`. Of kind 1 they are prices.
+/// "26 bytes 148 to 155" (request 2026-10). Of kind 1 they are prices.
 fn link_fault(bytes: &[u8], fields: &Fields) -> Option<&'static str> {
     if Kind::of(bytes) == Kind::One {
         return None;
@@ -355,17 +355,9 @@ pub(crate) fn number(bytes: &[u8], offset: usize, width: usize) -> u64 {
 /// formula; 11; 16, place counted from 0 among the image's prices." "24 kind 2 under 156 bytes" (request 2026-10). Without a ring, 11 is
 /// left out.
 pub fn first_refusal(bytes: &[u8], ring_length: Option<usize>) -> Result<(), Refusal> {
-    first_refusal_by(KNOWN, bytes, ring_length)
-}
-
-pub fn first_refusal_by(
-    known: Known,
-    bytes: &[u8],
-    ring_length: Option<usize>,
-) -> Result<(), Refusal> {
     unless(bytes.len() >= HEAD, 24)?;
     unless(number(bytes, 0, 4) == bytes.len() as u64, 24)?;
-    let kind = Kind::named(known, number(bytes, 4, 2));
+    let kind = Kind::named(number(bytes, 4, 2));
     unless(kind.is_none_or(|kind| bytes.len() >= kind.head()), 24)?;
     let kind = kind.ok_or(refusal(25))?;
     unless(head_fault(bytes).is_none(), 26)?;
@@ -402,11 +394,7 @@ fn price_refusal(fields: &Fields, shape: &Shape) -> Result<(), Refusal> {
 
 /// "an image check over its own bytes: … 0 or the load's number, 11 left out"
 pub fn check(bytes: &[u8]) -> u32 {
-    check_by(KNOWN, bytes)
-}
-
-pub fn check_by(known: Known, bytes: &[u8]) -> u32 {
-    match first_refusal_by(known, bytes, None) {
+    match first_refusal(bytes, None) {
         Ok(()) => 0,
         Err(refusal) => refusal.number,
     }

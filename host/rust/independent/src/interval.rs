@@ -42,22 +42,14 @@ fn record(kind: u16, body: &[u8]) -> Vec<u8> {
     [&length.to_le_bytes()[..], &kind.to_le_bytes(), body].concat()
 }
 
-/// What tells records apart: the markets of the book, and whether the additional link's record is known, as it then is in every book.
-#[derive(Clone, Copy, Debug)]
-pub(crate) struct Kinds {
-    pub(crate) known: Known,
-    pub(crate) markets: usize,
-}
-
-impl Kinds {
-    /// The length that a known kind has, counted on a record of zeros.
-    pub(crate) fn length(self, kind: u16) -> Option<usize> {
-        match kind {
-            HEAD => Some(head(0, 0, 0).len()),
-            REGION => Some(region(0, 0, 0, 0, &vec![0; self.markets]).len()),
-            LINK if self.known == Known::Link => Some(link_record(0, 0).len()),
-            _ => None,
-        }
+/// The length that a known kind has in a book of so many markets, counted on a record of zeros. The additional link's kind is known in
+/// every book.
+pub(crate) fn known_length(kind: u16, markets: usize) -> Option<usize> {
+    match kind {
+        HEAD => Some(head(0, 0, 0).len()),
+        REGION => Some(region(0, 0, 0, 0, &vec![0; markets]).len()),
+        LINK => Some(link_record(0, 0).len()),
+        _ => None,
     }
 }
 
@@ -116,7 +108,7 @@ impl<'a> Front<'a> {
 
     /// The next record's kind and body: "40: a record missing or cut short, a length below 6 or, for a known kind, another than
     /// it has".
-    fn record(&mut self, kinds: Kinds) -> Result<(u16, Front<'a>), Refusal> {
+    fn record(&mut self, markets: usize) -> Result<(u16, Front<'a>), Refusal> {
         let mut start = Front { rest: self.rest };
         let (Some(length), Some(kind)) = (start.take(4), start.take(2)) else {
             return Err(refusal(40));
@@ -128,14 +120,14 @@ impl<'a> Front<'a> {
         let kind = u16::from(kind[0]) + 256 * u16::from(kind[1]);
         unless(length >= 6, 40)?;
         let rest = self.take(length).ok_or(refusal(40))?;
-        let known = kinds.length(kind);
+        let known = known_length(kind, markets);
         unless(known.is_none_or(|known| known == length), 40)?;
         Ok((kind, Front { rest: &rest[6..] }))
     }
 
     /// The body of a record of the kind that is due; "41: a kind … that doesn't belong there".
-    pub(crate) fn due(&mut self, kind: u16, kinds: Kinds) -> Result<Front<'a>, Refusal> {
-        let (found, body) = self.record(kinds)?;
+    pub(crate) fn due(&mut self, kind: u16, markets: usize) -> Result<Front<'a>, Refusal> {
+        let (found, body) = self.record(markets)?;
         unless(found == kind, 41)?;
         Ok(body)
     }
@@ -143,21 +135,20 @@ impl<'a> Front<'a> {
 
 /// The interval at a place of the records, and the place after it: "per record 40, 41", 45.
 pub(crate) fn interval_at(
-    known: Known,
     shape: &Shape,
     records: &[u8],
     at: usize,
 ) -> Result<(Interval, usize), Refusal> {
-    let kinds = shape.kinds(known);
+    let markets = shape.markets();
     let mut front = Front::at(records, at);
-    let mut body = front.due(HEAD, kinds)?;
+    let mut body = front.due(HEAD, markets)?;
     let (number, kind) = (u32::from_le_bytes(body.field()), body.byte());
     // "or a region total in the head, that doesn't belong there"
     unless(usize::from(body.byte()) == shape.regions, 41)?;
     // "Region records now follow their head as 0, 1 and so on."
     let mut bodies = Vec::new();
     for next in 0..shape.regions {
-        let mut body = front.due(REGION, kinds)?;
+        let mut body = front.due(REGION, markets)?;
         // "45: a region record that isn't the next region"
         unless(usize::from(body.byte()) == next, 45)?;
         bodies.push(body);
@@ -165,35 +156,21 @@ pub(crate) fn interval_at(
     let mut interval = Interval {
         number,
         kind,
-        ..in_order(bodies, shape.markets())
+        ..in_order(bodies, markets)
     };
-    front.link(shape, kinds, &mut interval)?;
+    front.link(shape, &mut interval)?;
     Ok((interval, records.len() - front.rest.len()))
 }
 
 impl Front<'_> {
     /// The additional link's flow and factor, "an extra last place", where the book has it.
-    pub(crate) fn link(
-        &mut self,
-        shape: &Shape,
-        kinds: Kinds,
-        interval: &mut Interval,
-    ) -> Result<(), Refusal> {
+    pub(crate) fn link(&mut self, shape: &Shape, interval: &mut Interval) -> Result<(), Refusal> {
         if shape.link.is_some() {
-            let mut body = self.due(LINK, kinds)?;
+            let mut body = self.due(LINK, shape.markets())?;
             interval.flows.push(i32::from_le_bytes(body.field()));
             interval.factors.push(u32::from_le_bytes(body.field()));
         }
         Ok(())
-    }
-}
-
-impl Shape {
-    /// A book with the link knows its record whatever the others do.
-    pub(crate) fn kinds(&self, known: Known) -> Kinds {
-        let known = self.link.map_or(known, |_| Known::Link);
-        let markets = self.markets();
-        Kinds { known, markets }
     }
 }
 
@@ -206,20 +183,10 @@ impl Book {
         at: usize,
         lent: &mut Interval,
     ) -> Result<usize, Refusal> {
-        self.read_interval_by(KNOWN, records, at, lent)
-    }
-
-    pub fn read_interval_by(
-        &self,
-        known: Known,
-        records: &[u8],
-        at: usize,
-        lent: &mut Interval,
-    ) -> Result<usize, Refusal> {
         self.sound()?;
         let shape = self.shape();
         unless(lent.fits(&shape), 11)?;
-        let (interval, next) = interval_at(known, &shape, records, at)?;
+        let (interval, next) = interval_at(&shape, records, at)?;
         *lent = interval;
         Ok(next)
     }

@@ -80,15 +80,7 @@ impl Ledger {
     /// Request 2026-06 of document 02: "its list may begin with such an image of a book without entries and with no period marked, its
     /// settings standing for the opening's". Loaded into a ring of a length; `None` is an image of another book, with which no list begins.
     pub fn begin(bytes: &[u8], ring_length: usize) -> Result<Option<Ledger>, Refusal> {
-        Ledger::begin_by(KNOWN, bytes, ring_length)
-    }
-
-    pub fn begin_by(
-        known: Known,
-        bytes: &[u8],
-        ring_length: usize,
-    ) -> Result<Option<Ledger>, Refusal> {
-        image::first_refusal_by(known, bytes, Some(ring_length))?;
+        image::first_refusal(bytes, Some(ring_length))?;
         let fields = image::Fields::read(bytes);
         Ok(fields.settings().map(|settings| Ledger::opened(&settings)))
     }
@@ -355,11 +347,7 @@ impl Ledger {
 
     /// Loading an image into a ring of a length; the ledger goes on from there.
     pub fn load(bytes: &[u8], ring_length: usize) -> Result<Ledger, Refusal> {
-        Ledger::load_by(KNOWN, bytes, ring_length)
-    }
-
-    pub fn load_by(known: Known, bytes: &[u8], ring_length: usize) -> Result<Ledger, Refusal> {
-        image::first_refusal_by(known, bytes, Some(ring_length))?;
+        image::first_refusal(bytes, Some(ring_length))?;
         let fields = image::Fields::read(bytes);
         let shape = fields.shape();
         let mut prices = fields.prices.iter().copied();

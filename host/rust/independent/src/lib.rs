@@ -3,7 +3,7 @@
 //! position and period from it, and limits go over every route one by one. Beside it stand a cache of what it recomputes,
 //! for windows of thousands of prices, and the book as a host keeps it, with its ring; and document 02's interval records,
 //! with the earlier form and its rewriter, intervals left, thresholds in whole hundreds, test load, a retailer's bill, and one
-//! additional link (`rules::KNOWN` says from when on).
+//! additional link.
 //! Quotations are document 01's unless a file says otherwise.
 
 pub mod amount;
@@ -29,4 +29,4 @@ mod synthetic;
 pub use calls::{Answer, Call, Values};
 pub use image::Kind;
 pub use ledger::{Ledger, Report};
-pub use rules::{Known, Opening, Refusal};
+pub use rules::{Opening, Refusal};

@@ -38,18 +38,6 @@ pub const NO_PARENT: u8 = 255;
 /// "(255, 255 for none)": no additional link (request 2026-10 of document 02).
 pub const NO_END: u8 = 255;
 
-/// Whether a call knows images of kind 2 and records of kind 18 (request 2026-10 of document 02).
-#[derive(Clone, Copy, Debug, PartialEq, Eq)]
-pub enum Known {
-    /// Kind 2 is 25, and kind 18 is any unknown one.
-    NoLink,
-    Link,
-}
-
-/// What the compiled functions know, and so every call here that does not say it. They gain the link in a landing of its own: this
-/// constant turns to `Link` then, and may go.
-pub const KNOWN: Known = Known::NoLink;
-
 /// What a book is "Opened with"; of the additional link `from` is "the first named" region, `to` "the second".
 #[derive(Clone, Copy, Debug, PartialEq, Eq)]
 pub struct Opening {

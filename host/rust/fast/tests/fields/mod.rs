@@ -10,6 +10,8 @@ pub fn book_of(book: &independent::book::Book) -> Book {
         window: book.window,
         halves: book.halves,
         parents: book.parents,
+        from: book.from,
+        to: book.to,
         threshold: book.threshold,
         cap: book.cap,
         floor: book.floor,
