@@ -156,7 +156,7 @@ impl Day {
     /// Bytes of an interval.
     pub fn bytes(&self) -> usize {
         let (regions, services) = (self.market.regions, self.market.services);
-        guxhamole::interval_length(regions.into(), services.into())
+        guxhamole::interval_length(regions.into(), services.into(), guxhamole::NONE)
     }
 
     pub fn room(&self) -> Room {

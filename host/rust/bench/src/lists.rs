@@ -164,6 +164,8 @@ fn settings(market: &Market, trade: Trade) -> Settings {
         halves: market.halves,
         first: 0,
         parents,
+        from: guxhamole::NONE,
+        to: guxhamole::NONE,
         threshold: match trade {
             Trade::Free => 100_000_000_000,
             Trade::Administered => 50_000 * i64::from(market.window),
