@@ -62,6 +62,12 @@ fn generated() {
 /// The sizes that every cut, place and room is tried on: the least, the real market's, the most, and two between.
 const SIZES: [(u32, u32); 5] = [(1, 0), (2, 0), (3, 2), (5, 10), (8, 10)];
 
+/// Books of these sizes in a chain, and in a ring by an additional link where there are three regions.
+fn books() -> impl Iterator<Item = Book> {
+    let sizes = SIZES.into_iter();
+    sizes.flat_map(|(regions, services)| books::chained_and_ringed(regions, services))
+}
+
 /// The number of a refusal, or 0.
 fn number<T>(answer: Result<T, Refusal>) -> u32 {
     answer.err().map_or(0, |refusal| refusal.number)
@@ -72,13 +78,9 @@ fn number<T>(answer: Result<T, Refusal>) -> u32 {
 fn every_cut() {
     let mut met = Met::default();
     let mut random = Random::new(0x41_0000);
-    for (regions, services) in SIZES {
-        let book = books::chained(regions, services);
+    for book in books() {
         let (length, room) = (intervals::length(&book), 600);
-        let (first, one) = (
-            length - (regions as usize - 1) * record(&book),
-            regions == 1,
-        );
+        let (first, one) = (12 + record(&book), book.regions == 1);
         for (up, order) in [true, false].into_iter().zip(up_and_down(&book)) {
             let whole = two(&mut random, &book, &order);
             let out = if up || one { (length, 0) } else { (first, 45) };
@@ -102,7 +104,7 @@ fn every_cut() {
 
 /// The length of a region's record.
 fn record(book: &Book) -> usize {
-    (intervals::length(book) - 12) / usize::from(book.regions)
+    16 + 4 * (usize::from(book.services) + 1)
 }
 
 /// Every place of two intervals, in number order and back to front, and places from which a sum with a length wraps.
@@ -110,8 +112,7 @@ fn record(book: &Book) -> usize {
 fn every_place() {
     let mut met = Met::default();
     let mut random = Random::new(0x46_0000);
-    for (regions, services) in SIZES {
-        let book = books::chained(regions, services);
+    for book in books() {
         let length = intervals::length(&book);
         for (up, order) in [true, false].into_iter().zip(up_and_down(&book)) {
             let whole = two(&mut random, &book, &order);
@@ -122,7 +123,8 @@ fn every_place() {
                 };
                 let (stands, beyond) = (at == 0 || at == length, at >= 2 * length);
                 let read = number(met.read(&reading));
-                assert_eq!(read == 0, stands && (up || regions == 1), "place {at}");
+                let in_order = up || book.regions == 1;
+                assert_eq!(read == 0, stands && in_order, "place {at}");
                 assert!(!stands || [0, 45].contains(&read), "place {at}");
                 let rewriting = intervals::rewriting_into(&reading, length);
                 let rewritten = number(met.rewrite(&rewriting));
@@ -143,12 +145,12 @@ fn places(end: usize) -> impl Iterator<Item = usize> {
 }
 /// Reads from the middle of other memory, into slices of the book's lengths: the refusal's number, or 0.
 fn read_within(book: &Book, records: &[u8], at: usize) -> u32 {
-    let regions = book.regions.into();
+    let mut lent = intervals::fitting(&book.shape());
     let slices = IntervalMut {
-        prices: &mut vec![0; regions * (usize::from(book.services) + 1)],
-        marks: &mut vec![0; regions],
-        flows: &mut vec![0; regions],
-        factors: &mut vec![0; regions],
+        prices: &mut lent.prices,
+        marks: &mut lent.marks,
+        flows: &mut lent.flows,
+        factors: &mut lent.factors,
     };
     let found = guxhamole::Book::from_raw(compiled(book)).read_interval(records, at, slices);
     found.err().map_or(0, |refusal| refusal.number())
@@ -165,8 +167,7 @@ fn rewrite_within(book: &Book, records: &[u8], at: usize) -> u32 {
 #[test]
 fn nothing_beside_is_read() {
     let mut random = Random::new(0x44_0000);
-    for (regions, services) in SIZES {
-        let book = books::chained(regions, services);
+    for book in books() {
         let length = intervals::length(&book);
         let [up, _] = up_and_down(&book);
         let memory = two(&mut random, &book, &up).records.repeat(2);
@@ -192,8 +193,7 @@ fn nothing_beside_is_read() {
 #[test]
 fn nothing_short_beside_is_read() {
     let mut random = Random::new(0x47_0000);
-    for (regions, services) in SIZES {
-        let book = books::chained(regions, services);
+    for book in books() {
         let [up, _] = up_and_down(&book);
         let (six, whole) = ([6, 0, 0, 0, 99, 0].repeat(4), two(&mut random, &book, &up));
         let memory = [&six, &whole.records[..], &six].concat();
@@ -215,9 +215,14 @@ fn nothing_short_beside_is_read() {
 fn every_byte() {
     let mut met = Met::default();
     let mut random = Random::new(0x42_0000);
-    let orders: [&[usize]; 3] = [&[0, 1], &[1, 0], &[1, 2, 0]];
-    for (services, order) in [0, 0, 1].into_iter().zip(orders) {
-        let book = books::chained(order.len() as u32, services);
+    let cases: [(Book, &[usize]); 5] = [
+        (books::chained(2, 0), &[0, 1]),
+        (books::chained(2, 0), &[1, 0]),
+        (books::chained(3, 1), &[1, 2, 0]),
+        (books::ringed(3, 0), &[0, 1, 2]),
+        (books::ringed(3, 1), &[1, 2, 0]),
+    ];
+    for (book, order) in cases {
         let whole = two(&mut random, &book, order);
         for place in 0..intervals::length(&whole.book) {
             for value in 0..=255 {
@@ -246,8 +251,7 @@ fn resized(interval: &Interval, slice: usize, length: usize) -> Interval {
 fn every_room_and_length() {
     let mut met = Met::default();
     let mut random = Random::new(0x43_0000);
-    for (regions, services) in SIZES {
-        let book = books::chained(regions, services);
+    for book in books() {
         let ([up, _], length) = (up_and_down(&book), intervals::length(&book));
         let reading = two(&mut random, &book, &up);
         let interval = intervals::interval(&mut random, &book);
@@ -264,9 +268,9 @@ fn every_room_and_length() {
                 "room {room}"
             );
         }
-        let right = [interval.prices.len(), interval.marks.len()];
-        for slice in 0..4 {
-            let right = right[slice.min(1)];
+        let (marks, links) = (interval.marks.len(), interval.flows.len());
+        let rights = [interval.prices.len(), marks, links, links];
+        for (slice, right) in rights.into_iter().enumerate() {
             for size in (0..=2 * right).filter(|&size| size != right) {
                 let misfit = resized(&interval, slice, size);
                 assert_eq!(number(met.write(&write(&misfit, 0))), 11);

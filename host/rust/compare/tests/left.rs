@@ -340,10 +340,14 @@ fn books_at_the_bound() {
     met.at_least(&["none", "1", "between", "W"], 300);
 }
 
-/// A restart that is accepted.
+/// A restart that is accepted, by either kind in turn; a book with the additional link restarts by kind 2 alone.
 fn restart(ledger: &Ledger) -> Call {
-    let ring = ledger.shape().ring();
-    Call::Restart(Kind::One, 148 + 4 * ring, ring)
+    let (shape, ring) = (ledger.shape(), ledger.shape().ring());
+    let kind = match ledger.entries_taken().is_multiple_of(2) {
+        true => Kind::holding(shape),
+        false => Kind::Two,
+    };
+    Call::Restart(kind, kind.head() + 4 * ring, ring)
 }
 
 /// The book of an opening after so many valid entries.

@@ -242,7 +242,9 @@ fn loads() {
         assert_eq!(checked(&image, ""), number, "{image:?}");
         *met.entry(number).or_insert(0) += 1;
         let fault = (number == 26).then(|| image::head_fault(&image)).flatten();
-        fault.map(|fault| *faults.entry(fault).or_insert(0) += 1);
+        if let Some(fault) = fault {
+            *faults.entry(fault).or_insert(0) += 1;
+        }
         for wrong in WRONG_LOADS {
             *told.entry(wrong).or_insert(0) += usize::from(checked(&image, wrong) != number);
         }

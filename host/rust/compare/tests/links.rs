@@ -169,8 +169,8 @@ fn lists(met: &mut Met, seed: u64, count: usize, regions: u32, length: usize) {
 fn generated_lists() {
     let mut met = Met::default();
     for round in 0..rounds() {
-        lists(&mut met, 2_026_10 + round, 2_000, 5, 14);
-        lists(&mut met, 2_027_10 + round, 60, 8, 10);
+        lists(&mut met, 202_610 + round, 2_000, 5, 14);
+        lists(&mut met, 202_710 + round, 60, 8, 10);
     }
     say(&format!(
         "links, lists: {} calls, {} accepted entries, {} with the link, {} published otherwise by it; restarts by kind 1 and 2 {:?}, \

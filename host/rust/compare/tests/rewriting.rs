@@ -70,25 +70,25 @@ fn shuffled(met: &mut Met, reading: &Reading, interval: &Interval, form: &[u8], 
     }
 }
 
-/// All R! orders: of every size up to R 5, of some up to R 8.
+/// All R! orders: of every size up to R 5, of some up to R 8, with an additional link too.
 #[test]
 fn every_order() {
     let mut met = Met::default();
     let mut random = Random::new(0xA0_0000);
     let small = (1..=5).flat_map(|regions| [0, 1, 2, 5, 10].map(|services| (regions, services)));
-    for (regions, services) in small.chain([(6, 0), (6, 10), (7, 0), (8, 0)]) {
-        let book = books::chained(regions, services);
+    let sizes = small.chain([(6, 0), (6, 10), (7, 0), (8, 0)]);
+    for book in sizes.flat_map(|(regions, services)| books::chained_and_ringed(regions, services)) {
         let interval = intervals::interval(&mut random, &book);
         let [up, _] = up_and_down(&book);
         let form = intervals::records(&interval, markets(&book), &up);
-        for (turn, order) in orders(regions as usize).iter().enumerate() {
+        for (turn, order) in orders(up.len()).iter().enumerate() {
             let reading = standing(&book, &interval, order, turn % 5);
             shuffled(&mut met, &reading, &interval, &form, turn % 3);
         }
         met.one_form(&mut random, &book, interval, &form);
     }
     met.say("every order");
-    assert!(met.rewrites[&0] >= 47_000 && met.reads[&45] >= 47_000);
+    assert!(met.rewrites[&0] >= 94_000 && met.reads[&45] >= 94_000);
 }
 
 /// Random orders of any interval, by books of R 1 to 8 in the middle of their windows too.
@@ -324,9 +324,9 @@ fn spoilt(random: &mut Random, book: &Book) -> Book {
 fn every_room() {
     let mut met = Met::default();
     let mut random = Random::new(0xA4_0000);
-    for (regions, services) in [(1, 0), (2, 0), (3, 2), (5, 10), (8, 10)] {
-        let book = books::chained(regions, services);
-        let order = any_order(&mut random, regions as usize);
+    let sizes = [(1, 0), (2, 0), (3, 2), (5, 10), (8, 10)].into_iter();
+    for book in sizes.flat_map(|(regions, services)| books::chained_and_ringed(regions, services)) {
+        let order = any_order(&mut random, book.regions.into());
         let whole = two(&mut random, &book, &order);
         let rubbish = |records: &[u8], at: usize| Reading {
             records: records.to_vec(),

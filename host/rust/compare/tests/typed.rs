@@ -184,21 +184,36 @@ fn next_entry(random: &mut Random, ledger: &Ledger) -> Call {
     Call::Entry(calls::entry(random, ledger), ledger.shape().ring(), table)
 }
 
-/// A restart that is accepted.
+/// A restart that is accepted, by either kind in turn; a book with the additional link restarts by kind 2 alone.
 fn restart(ledger: &Ledger) -> Call {
-    let ring = ledger.shape().ring();
-    Call::Restart(Kind::One, 148 + 4 * ring, ring)
+    let (shape, ring) = (ledger.shape(), ledger.shape().ring());
+    let kind = match ledger.entries_taken().is_multiple_of(2) {
+        true => Kind::holding(shape),
+        false => Kind::Two,
+    };
+    Call::Restart(kind, kind.head() + 4 * ring, ring)
 }
 
-/// Restarts after each of 0 to 3 × W + 2 entries, once and twice in a row, windows of 1 to 6.
+/// Restarts after each of 0 to 3 × W + 2 entries, once and twice in a row, windows of 1 to 6, without an additional link and with it.
 #[test]
 fn restarts_at_every_phase() {
     let mut met = Met::default();
     let mut random = Random::new(0x23_0000);
     for window in 1..=6 {
-        for (services, times) in [(0, 1), (1, 2), (2, 1)] {
-            let mut opening = books::opening(3, services, window, 1);
-            opening.parents = books::parents(&[255, 0, 0]);
+        let none = (255, 255);
+        for (services, times, (from, to)) in [
+            (0, 1, none),
+            (1, 2, none),
+            (2, 1, none),
+            (0, 1, (1, 2)),
+            (1, 2, (2, 1)),
+        ] {
+            let opening = Opening {
+                parents: books::parents(&[255, 0, 0]),
+                from,
+                to,
+                ..books::opening(3, services, window, 1)
+            };
             for phase in 0..3 * window + 3 {
                 let start = Start::Opening(opening, calls::ring_length(&opening));
                 let mut playing = met.start(start, false).expect("a valid opening");
