@@ -1,12 +1,14 @@
 //! Calls to be counted by instructions rather than timed: `bench count proved|fast` and, where it is not the real market's free
 //! entry, the words `small`, `administered`, `report`, `store`, `load`, `question`, `schedule`, `draw` of the test load, `bill` of a day
-//! or the `day` entered alone, ten times each, or `read`, `write`, `rewrite-upward` and `rewrite-shuffled` of interval records. Under
-//! callgrind's `--toggle-collect='*count::counted*'` the calls themselves are counted, on a book whose window is full.
+//! or the `day` entered alone, ten times each, entries of eight administered regions in a `row` or a `ring`, or `read`, `write`,
+//! `rewrite-upward` and `rewrite-shuffled` of interval records. Under callgrind's `--toggle-collect='*count::counted*'` the calls
+//! themselves are counted, on a book whose window is full.
 
 use crate::bills::{self, Billing};
 use crate::intervals::{self, Day, Recorded, Room};
 use crate::lists::{Market, Trade, Trading};
 use crate::loads::{self, Drawing, Load};
+use crate::rings;
 use crate::schedules::{Maker, Weeks};
 use crate::typed::{Host, Typed, CALLS};
 
@@ -24,6 +26,10 @@ const DRAW: &str = "draw";
 /// A day's bill checked, and the day entered alone.
 const BILL: &str = "bill";
 const ENTERED: &str = "day";
+
+/// Entries of eight administered regions in a row, and in a ring by the additional link.
+const ROW: &str = "row";
+const RING: &str = "ring";
 
 /// How many calls are counted, and how many days.
 const TIMES: usize = 1_000;
@@ -46,13 +52,17 @@ pub fn run(real: &Market, small: &Market, words: &[&str]) -> Option<()> {
     };
     for &word in words {
         let records = intervals::CALLS.map(|(name, _)| name);
-        let others = [QUESTION, SCHEDULE, DRAW, BILL, ENTERED];
+        let others = [QUESTION, SCHEDULE, DRAW, BILL, ENTERED, ROW, RING];
         let mut known = CALLS.into_iter().chain(others).chain(records);
         match word {
             "small" => counting.market = *small,
             "administered" => counting.trade = Trade::Administered,
             call => counting.call = known.find(|&known| known == call)?,
         }
+    }
+    if [ROW, RING].contains(&counting.call) {
+        counting.market = rings::market(counting.market.services);
+        counting.trade = Trade::Administered;
     }
     match *player {
         "proved" => counting.play::<guxhamole::Book>(),
@@ -84,6 +94,12 @@ impl Counting {
                 let day = bills::Day::new(&self.market, self.trade);
                 let start = day.start::<B>();
                 return counted_days(&day, &start, &mut day.room(), self.call);
+            }
+            ROW | RING => {
+                let trading = rings::trading(&self.market, self.call == RING);
+                let mut host: Host<B> = Host::new(&self.market, &trading);
+                host.enter(&trading, 0..1);
+                return counted(&mut host, &trading, CALLS[0], 0);
             }
             _ => {}
         }

@@ -72,7 +72,7 @@ fn main() {
     };
     if done.is_none() {
         eprintln!("bench [intervals|loads|questions|bills|schedules|rings] [ROUNDS]");
-        eprintln!("bench count proved|fast [small] [administered] [report|store|load|question|schedule|draw|bill|day]");
+        eprintln!("bench count proved|fast [small] [administered] [report|store|load|question|schedule|draw|bill|day|row|ring]");
         eprintln!("bench count proved|fast [small] [read|write|rewrite-upward|rewrite-shuffled]");
         std::process::exit(2);
     }

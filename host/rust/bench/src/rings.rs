@@ -20,18 +20,23 @@ const ENERGY: i32 = 100_000;
 
 /// The cost of an entry, from the second on, with so many services.
 pub fn measure(services: u8, linked: bool, rounds: usize) -> Costs {
-    let market = Market {
-        regions: 8,
-        services,
-        window: 1,
-        halves: 48,
-    };
+    let market = market(services);
     let trading = trading(&market, linked);
     let [entry, ..] = measure_trading(&market, &trading, 1, rounds);
     entry
 }
 
-fn trading(market: &Market, linked: bool) -> Trading {
+pub fn market(services: u8) -> Market {
+    Market {
+        regions: 8,
+        services,
+        window: 1,
+        halves: 48,
+    }
+}
+
+/// The entries, every region administered from the second on.
+pub fn trading(market: &Market, linked: bool) -> Trading {
     let (from, to) = if linked { ENDS } else { (NONE, NONE) };
     let settings = Settings {
         regions: market.regions,
