@@ -250,18 +250,6 @@ fn damaged_settings(book: &raw::Book) -> Vec<raw::Book> {
     let windows = [0, 1, below, above, 2_016, 2_017, 65_535];
     let (last, past) = (day.wrapping_sub(1), day + 1);
     let positions = [0, last, day, past, 287, 288, 65_535];
-    let most = 100_000_000_000;
-    let thresholds = [
-        i64::MIN,
-        -1,
-        0,
-        1,
-        95_000,
-        most - 1,
-        most,
-        most + 1,
-        i64::MAX,
-    ];
     let most = 10_000_000;
     let caps = [i32::MIN, 0, 1, most, most + 1, i32::MAX];
     let floors = [i32::MIN, -most - 1, -most, -1, 0, i32::MAX];
@@ -278,13 +266,26 @@ fn damaged_settings(book: &raw::Book) -> Vec<raw::Book> {
         each(book, &[0, 1, 47, 48, 49, 255], |book, to| book.halves = to),
         each(book, &positions, |book, to| book.position = to),
         each(book, &ends(book), |book, to| (book.from, book.to) = to),
-        each(book, &thresholds, |book, to| book.threshold = to),
+        each(book, &THRESHOLDS, |book, to| book.threshold = to),
         each(book, &caps, |book, to| book.cap = to),
         each(book, &floors, |book, to| book.floor = to),
         each(book, &entries, |book, to| book.entries = to),
     ]
     .concat()
 }
+
+/// Thresholds at each bound and one past it, and one that no setting takes.
+const THRESHOLDS: [i64; 9] = [
+    i64::MIN,
+    -1,
+    0,
+    1,
+    95_000,
+    99_999_999_999,
+    100_000_000_000,
+    100_000_000_001,
+    i64::MAX,
+];
 
 /// Ends of the additional link: every pair of regions, one past them, and of 255 with one of them, in either order.
 fn ends(book: &raw::Book) -> Vec<(u8, u8)> {

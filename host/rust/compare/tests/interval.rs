@@ -177,6 +177,12 @@ impl Running {
     }
 }
 
+/// How many markets are administered by the second marks and not by the first.
+fn changes(was: &[bool], is: &[bool]) -> u64 {
+    let pairs = was.iter().zip(is);
+    pairs.filter(|(was, is)| !**was && **is).count() as u64
+}
+
 /// The energy prices of an accepted call's entry, if the book has an additional link.
 fn by_routes(ledger: &Ledger, call: &Call, candidates: &[Vec<Vec<usize>>]) -> Option<Vec<i128>> {
     let shape = ledger.shape();
@@ -207,7 +213,7 @@ fn one_interval_is_the_ledger_machine() {
                     continue;
                 }
                 match (&call, answer.values) {
-                    (Call::Entry(entry, _, _), Values::Entry(count, table)) => {
+                    (Call::Entry(entry, ..), Values::Entry(count, table)) => {
                         let by_routes = by_routes(&before, &call, &candidates);
                         let before = running.marks.clone();
                         ringed += u64::from(by_routes.is_some() && count > 0);
@@ -215,10 +221,8 @@ fn one_interval_is_the_ledger_machine() {
                         entries += 1;
                         changed += u64::from(count > 0);
                         linked += u64::from(entry.flows.iter().any(|&flow| flow != 0) && count > 0);
-                        for (was, is) in before.iter().zip(&running.marks) {
-                            begun += u64::from(!was && *is);
-                            ended += u64::from(*was && !is);
-                        }
+                        begun += changes(&before, &running.marks);
+                        ended += changes(&running.marks, &before);
                     }
                     (Call::Threshold(threshold), _) => running.settings.threshold = *threshold,
                     (Call::Limits(cap, floor), _) => {

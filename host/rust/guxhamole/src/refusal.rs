@@ -163,10 +163,7 @@ impl Refusal {
             Refusal::ImageLength => (24, "the image was cut, or is none"),
             Refusal::ImageKind => (25, "no image of a book, of kind 1 or 2"),
             Refusal::ImageField => (26, "a field of the image outside its limits"),
-            Refusal::ImageTotal => (
-                27,
-                "an image of another length than its kind and counts ask for",
-            ),
+            Refusal::ImageTotal => (27, "another length than kind and counts ask for"),
             Refusal::Index => (30, "an argument of the index out of range"),
             Refusal::MakerSizes => (31, "half-hours or lengths of the schedule maker"),
             Refusal::MakerKinds => (32, "day kinds of the schedule maker"),
