@@ -340,7 +340,8 @@ guxhamole_billed guxhamole_bill(guxhamole_book book, const int32_t *ring, size_t
 /* Draws a synthetic interval, a test load that anyone can remake from its seed, into the slices that an entry takes. Each draw
    replaces s, at first the seed, by (s x 1,664,525 + 1,013,904,223) mod 2^32, and gives d = s div 65,536. The R x M prices are
    drawn in their order, then flow and factor of region 0, flow and factor of region 1 and so on, whether a region has a parent or
-   not, and last those of the additional link, where the book has it: R x M + 2 x GUXHAMOLE_LINKS(R, from) draws. The last s is handed back, as the seed of the next interval.
+   not, and last those of the additional link, where the book has it: R x M + 2 x GUXHAMOLE_LINKS(R, from) draws. The last s is
+   handed back, as the seed of the next interval.
      energy    1,500,000 if d < 64, else d mod 20,000 - 2,000
      service   d mod 3,000
      flow      d mod 2,001 - 1,000
