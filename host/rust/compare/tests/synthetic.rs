@@ -213,7 +213,8 @@ fn left_and_due(book: &Book, interval: &Interval, at: usize, d: u16) -> (i64, i6
     }
 }
 
-/// Every size, in a chain and in a ring; every draw of an interval gives every number about which a rule turns, from seeds found by going backwards.
+/// Every size, in a chain and in a ring; every draw of an interval gives every number about which a rule turns, from seeds found by going
+/// backwards.
 #[test]
 fn every_size_and_draw() {
     let mut met = Met::default();

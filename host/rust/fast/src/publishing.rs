@@ -88,8 +88,8 @@ impl Book {
         Links::of(parents, Some(ends), entry.flows, entry.factors)
     }
 
-    /// Step 4 without the additional link. Links make a forest whose parents are lower, each goes one way, and a link's rounding keeps order; so one
-    /// pass towards the parents and one away from them bring every limit to every region that it reaches.
+    /// Step 4 without the additional link. Links make a forest whose parents are lower, each goes one way, and a link's rounding keeps
+    /// order; so one pass towards the parents and one away from them bring every limit to every region that it reaches.
     fn pass_on(&self, entry: &Entry, limits: &mut Limits) {
         let Limits { caps, floors } = limits;
         let regions = usize::from(self.regions);

@@ -47,8 +47,8 @@ pub struct Found {
 /// Interval records; the book says how many regions and markets they have, and stays.
 impl Book {
     /// Reads the interval whose head stands at a place of the records, its regions in number order, and behind them, exactly where the
-    /// book has it, the additional link: 10, 11, then record by record 40, 41, 45. No range is tested, which is the entry's part, and what follows the interval isn't looked at. So one entry has one
-    /// form: two places that read to the same entry hold the same bytes.
+    /// book has it, the additional link: 10, 11, then record by record 40, 41, 45. No range is tested, which is the entry's part, and
+    /// what follows the interval isn't looked at. So one entry has one form: two places that read to the same entry hold the same bytes.
     ///
     /// Written, read back and entered:
     ///

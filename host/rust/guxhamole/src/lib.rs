@@ -17,8 +17,8 @@
 //!   its methods; it neither goes back to an older copy nor puts a book together from bytes or fields;
 //! - lends each entry, each store, each question for the intervals left and each bill the ring that the book was opened or loaded
 //!   with, and lets nothing but these calls write it;
-//! - restarts by [`Book::store`], or by [`Book::store_kind_1`] where 47 allows it, and, from exactly the image's bytes, [`Book::load`] into another ring, and goes on with the
-//!   book and ring that the load left.
+//! - restarts by [`Book::store`], or by [`Book::store_kind_1`] where 47 allows it, and, from exactly the image's bytes, [`Book::load`]
+//!   into another ring, and goes on with the book and ring that the load left.
 //!
 //! A host that breaks these rules still has safe calls: a damaged book is refused by 10, a ring that isn't the book's by 22 when
 //! it is stored or asked about, a damaged image by 24 to 27 or 16. What keeps its form, such as an older copy, may go unnoticed.
