@@ -7,7 +7,7 @@ use book::record::{Answer, Book, Refusal, ring_size};
 use book::validity::valid;
 
 // The lengths of the slices that a bill is lent: the book's ring and the second one, the schedule, and the four of its lines.
-#[derive(Drop)]
+#[derive(Clone, Copy)]
 pub struct Lengths {
     pub ring: usize,
     pub work: usize,

@@ -1,4 +1,5 @@
 // Holding a retailer's bill against the rules: each line against the published price of its interval.
+#![tactic(auto)]
 ghost use Rattle.std.specs.Prelude.{◌≡◌, ◌≤◌, ◌<◌, length};
 ghost use Rattle.book.specs.Record.{verdict};
 ghost use Rattle.bill_lines.specs.Lines.{lines_of};
@@ -11,21 +12,21 @@ use book::record::{Answer, Book, Refusal};
 use interval_entry::{Step, take_interval};
 
 // Every line is right, or the first wrong line, or the first refusal.
-#[derive(Drop)]
+#[derive(Clone, Copy)]
 pub enum Judgement {
     Right,
     Wrong(usize),
     Refused(Refusal),
 }
 
-#[derive(Drop)]
+#[derive(Clone, Copy)]
 pub struct Billed {
     pub book: Book,
     pub judgement: Judgement,
 }
 
 // How a day ended, how many intervals were accepted, and how many of the first lines are right.
-#[derive(Drop)]
+#[derive(Clone, Copy)]
 struct Played {
     answer: Answer,
     count: usize,

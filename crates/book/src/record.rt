@@ -5,7 +5,7 @@ ghost use Rattle.book.specs.Record.{closed, ring_size, links_with, has_link, lin
 // A book by value. The sum and the period mark of a market stand at 11 × region + market; a region's count and next place
 // serve all its markets. `position` is the next entry's. Laid out as in C: a host keeps it between calls.
 #[repr(C)]
-#[derive(Drop)]
+#[derive(Clone, Copy)]
 pub struct Book {
     pub regions: u8,
     pub services: u8,
@@ -27,7 +27,7 @@ pub struct Book {
 
 // What a book is opened with. `first` is the first position; `from` and `to` are the ends of the additional link, or 255 and 255 for none.
 #[repr(C)]
-#[derive(Drop)]
+#[derive(Clone, Copy)]
 pub struct Settings {
     pub regions: u8,
     pub services: u8,
@@ -43,7 +43,7 @@ pub struct Settings {
 }
 
 // A case for each refusal of a call on a book, with its place where it has one.
-#[derive(Drop)]
+#[derive(Clone, Copy)]
 pub enum Refusal {
     Invalid,
     Length,
@@ -74,7 +74,7 @@ pub enum Refusal {
 }
 
 // What a call that answers nothing else says.
-#[derive(Drop)]
+#[derive(Clone, Copy)]
 pub enum Answer {
     Accepted,
     Refused(Refusal),

@@ -7,7 +7,7 @@ use crate::setting::threshold_verdict;
 use book::record::{Answer, Book, Refusal, Settings, closed, ring_size};
 use book::validity::{ends_ok, parents_ok, shape_ok};
 
-#[derive(Drop)]
+#[derive(Clone, Copy)]
 pub struct Opened {
     pub book: Book,
     pub answer: Answer,

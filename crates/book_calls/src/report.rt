@@ -5,7 +5,7 @@ ghost use Rattle.book_calls.specs.Report.{outcome, reported};
 use book::record::{Book, Refusal};
 use book::validity::valid;
 
-#[derive(Drop)]
+#[derive(Clone, Copy)]
 pub enum Reading {
     Values {
         sum: i64,
@@ -16,7 +16,7 @@ pub enum Reading {
     Refused(Refusal),
 }
 
-#[derive(Drop)]
+#[derive(Clone, Copy)]
 pub struct Reported {
     pub book: Book,
     pub reading: Reading,

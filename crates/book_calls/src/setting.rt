@@ -6,7 +6,7 @@ ghost use Rattle.book_calls.specs.Setting.{in_hundreds, threshold_verdict, outco
 use book::record::{Answer, Book, Refusal};
 use book::validity::{threshold_ok, valid};
 
-#[derive(Drop)]
+#[derive(Clone, Copy)]
 pub struct Changed {
     pub book: Book,
     pub answer: Answer,

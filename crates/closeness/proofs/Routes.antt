@@ -9,7 +9,7 @@ use native.Mathlib.Omega.{arith}
 use borrow.Author.Tests.{eqb-false, ne_eqb}
 use lib.Dec.{eqb}
 use lib.IntN.{ℤ}
-use lib.ListN.{length, length-append}
+use lib.ListN.{length, set, length-append}
 use lib.Signed.{le_z}
 use Rattle.laws.specs.Base.{pick, min_z, max_z}
 use Rattle.laws.proofs.Integers.{integers, le_test}
@@ -161,7 +161,7 @@ module _ (caps : Bool) (power : ℕ → ℕ → ℕ) (own : ℕ → Limit) (R : 
         let rest = factors_on caps power y r in
         let last = step caps power x y in
         let o = over-bound caps last (along caps power own y r) e in
-        let c = came _ y r s.0 s.2 o.1 in
+        let c = came (set seen x true) y r s.0 s.2 o.1 in
         let n = o.3 in
         record {
           limit = c.limit;

@@ -1,4 +1,5 @@
 // The entry of an interval: its refusals, and the whole call, steps 1 to 6.
+#![tactic(auto)]
 mod checking;
 
 ghost use Rattle.std.specs.Prelude.{◌≡◌, ◌<◌, length};
@@ -15,13 +16,13 @@ use counting::windows::{counts_after, nexts_after, take};
 use publishing::{Terms, publish};
 
 // The count of published prices that differ from the effective ones, or the first refusal.
-#[derive(Drop)]
+#[derive(Clone, Copy)]
 pub enum Publication {
     Count(u32),
     Refused(Refusal),
 }
 
-#[derive(Drop)]
+#[derive(Clone, Copy)]
 pub struct Entered {
     pub book: Book,
     pub publication: Publication,

@@ -1,4 +1,5 @@
 // What a host in C is answered: the answers of the calls on a book and of the schedule maker, as plain structs laid out as in C.
+#![tactic(auto)]
 ghost use Rattle.std.specs.Prelude.{◌≡◌};
 ghost use Rattle.billing.specs.Billing as Billing;
 ghost use Rattle.book.specs.Record as Record;
@@ -26,7 +27,7 @@ use synthetic::Draw;
 
 // `guxhamole_kept`: a call that hands back a book and nothing else.
 #[repr(C)]
-#[derive(Drop)]
+#[derive(Clone, Copy)]
 pub struct Kept {
     pub book: Book,
     pub number: u32,
@@ -35,7 +36,7 @@ pub struct Kept {
 
 // `guxhamole_entered`: an entry.
 #[repr(C)]
-#[derive(Drop)]
+#[derive(Clone, Copy)]
 pub struct Taken {
     pub book: Book,
     pub number: u32,
@@ -45,7 +46,7 @@ pub struct Taken {
 
 // `guxhamole_reading`: a report. Its refusals have no place.
 #[repr(C)]
-#[derive(Drop)]
+#[derive(Clone, Copy)]
 pub struct Seen {
     pub number: u32,
     pub counted: u32,
@@ -56,7 +57,7 @@ pub struct Seen {
 
 // `guxhamole_stored`: the length of an image, or of an interval's records. The refusals of these calls have no place.
 #[repr(C)]
-#[derive(Drop)]
+#[derive(Clone, Copy)]
 pub struct Written {
     pub number: u32,
     pub length: u64,
@@ -64,7 +65,7 @@ pub struct Written {
 
 // `guxhamole_found`: the place after an interval that was read, its entry number and its day kind. A read's refusals have no place.
 #[repr(C)]
-#[derive(Drop)]
+#[derive(Clone, Copy)]
 pub struct Found {
     pub number: u32,
     pub next: u64,
@@ -74,7 +75,7 @@ pub struct Found {
 
 // `guxhamole_rewritten`: the place after an interval that was rewritten. A rewriting's refusals have no place.
 #[repr(C)]
-#[derive(Drop)]
+#[derive(Clone, Copy)]
 pub struct Rewritten {
     pub number: u32,
     pub next: u64,
@@ -82,7 +83,7 @@ pub struct Rewritten {
 
 // `guxhamole_drawn`: the last seed of a test load, with its entry number and its day kind. Its refusals have no place.
 #[repr(C)]
-#[derive(Drop)]
+#[derive(Clone, Copy)]
 pub struct Drawn {
     pub number: u32,
     pub seed: u32,
@@ -92,7 +93,7 @@ pub struct Drawn {
 
 // `guxhamole_left`: how many intervals are left before a market's sum exceeds the threshold. Its refusals have no place.
 #[repr(C)]
-#[derive(Drop)]
+#[derive(Clone, Copy)]
 pub struct Left {
     pub number: u32,
     pub intervals: u32,
@@ -100,7 +101,7 @@ pub struct Left {
 
 // `guxhamole_billed`: whether a bill is right, or its first wrong line. Of its refusals those of an entry and 46 have a place.
 #[repr(C)]
-#[derive(Drop)]
+#[derive(Clone, Copy)]
 pub struct Billed {
     pub number: u32,
     pub place: u64,
@@ -110,7 +111,7 @@ pub struct Billed {
 
 // `guxhamole_rows`: a schedule.
 #[repr(C)]
-#[derive(Drop)]
+#[derive(Clone, Copy)]
 pub struct Rows {
     pub number: u32,
     pub place: u64,

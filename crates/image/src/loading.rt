@@ -18,7 +18,7 @@ use head::counted::how_many;
 use head::layout::{head_from, image_length, is_second, prices_from};
 use pricing::holding::in_range;
 
-#[derive(Drop)]
+#[derive(Clone, Copy)]
 pub struct Loaded {
     pub book: Book,
     pub answer: Answer,

@@ -19,13 +19,13 @@ use head::layout::{head_size, image_length, put_front};
 use pricing::holding::in_range;
 
 // The image's length, or the first refusal.
-#[derive(Drop)]
+#[derive(Clone, Copy)]
 pub enum Image {
     Length(usize),
     Refused(Refusal),
 }
 
-#[derive(Drop)]
+#[derive(Clone, Copy)]
 pub struct Stored {
     pub book: Book,
     pub image: Image,

@@ -1,4 +1,5 @@
 // An interval of a day: read from its records, then entered.
+#![tactic(auto)]
 ghost use Rattle.std.specs.Prelude.{◌≡◌, ◌*◌, ◌≤◌, ◌<◌, length};
 ghost use Rattle.book.specs.Record.{markets_of};
 ghost use Rattle.interval_records.specs.Layout.{interval_of};
@@ -9,7 +10,7 @@ use entries::{Publication, enter};
 use intervals::reading::{Found, read_interval};
 
 // The place after the interval with its number and a region's published energy price, or the first refusal.
-#[derive(Drop)]
+#[derive(Clone, Copy)]
 pub enum Step {
     Gone {
         next: usize,
@@ -19,7 +20,7 @@ pub enum Step {
     Stopped(Refusal),
 }
 
-#[derive(Drop)]
+#[derive(Clone, Copy)]
 pub struct Stepped {
     pub book: Book,
     pub step: Step,

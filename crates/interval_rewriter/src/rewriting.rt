@@ -13,13 +13,13 @@ use book::validity::valid;
 use interval_records::layout::{interval_length, link_length};
 
 // The place after the interval that was taken, or the first refusal.
-#[derive(Drop)]
+#[derive(Clone, Copy)]
 pub enum Place {
     After(usize),
     Refused(Refusal),
 }
 
-#[derive(Drop)]
+#[derive(Clone, Copy)]
 pub struct Rewritten {
     pub book: Book,
     pub place: Place,

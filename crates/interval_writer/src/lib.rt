@@ -1,2 +1,3 @@
 // Interval records from the plant bus, written.
+#![tactic(auto)]
 pub mod writing;

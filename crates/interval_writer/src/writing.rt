@@ -17,13 +17,13 @@ use interval_records::layout::{interval_length, region_length};
 use intervals::lent::lent_verdict;
 
 // The interval's length in bytes, or the first refusal.
-#[derive(Drop)]
+#[derive(Clone, Copy)]
 pub enum Size {
     Length(usize),
     Refused(Refusal),
 }
 
-#[derive(Drop)]
+#[derive(Clone, Copy)]
 pub struct Written {
     pub book: Book,
     pub size: Size,

@@ -16,13 +16,13 @@ use interval_records::in_order::ordered_verdict;
 use interval_records::layout::interval_length;
 
 // The place after the interval with its number and day kind, or the first refusal.
-#[derive(Drop)]
+#[derive(Clone, Copy)]
 pub enum Found {
     At { next: usize, number: u32, kind: u8 },
     Refused(Refusal),
 }
 
-#[derive(Drop)]
+#[derive(Clone, Copy)]
 pub struct Taken {
     pub book: Book,
     pub found: Found,

@@ -1,4 +1,5 @@
 // Intervals left before a period: how many more at a price make a market's sum exceed the threshold.
+#![tactic(auto)]
 ghost use Rattle.std.specs.Prelude.{◌≡◌, ◌+◌, ◌≤◌, ◌<◌, length};
 ghost use Rattle.book.specs.Record.{verdict};
 ghost use Rattle.head.specs.Counted.{window_of};
@@ -12,13 +13,13 @@ use image::storing::prices_ok;
 use pricing::holding::in_range;
 
 // The number of intervals, 0 if no number makes the sum exceed the threshold; or the first refusal.
-#[derive(Drop)]
+#[derive(Clone, Copy)]
 pub enum Left {
     Intervals(u16),
     Refused(Refusal),
 }
 
-#[derive(Drop)]
+#[derive(Clone, Copy)]
 pub struct Planned {
     pub book: Book,
     pub left: Left,

@@ -1,4 +1,5 @@
 // One call of a replay: it reads its arguments, calls the book's own operation and writes the answer.
+#![tactic(auto)]
 ghost use Rattle.std.specs.Prelude.{◌≡◌, true, false, ◌++◌, ◌+◌, ◌*◌, ◌-◌, ◌≤◌, length, take, drop};
 ghost use Rattle.std.proofs.lemmas.List.Edits.{sets};
 ghost use Rattle.laws.specs.Base.{pick};
@@ -24,7 +25,7 @@ use records::reading::{Lengths, lengths_at, read_entry};
 use records::writing::{put_answer, put_entered, put_reported};
 
 // The book after a call, and whether the rings have changed places.
-#[derive(Drop)]
+#[derive(Clone, Copy)]
 pub struct Played {
     pub book: Book,
     pub swapped: bool,

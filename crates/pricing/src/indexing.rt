@@ -5,14 +5,14 @@ ghost use Rattle.pricing.specs.Indexing.{between, quarters_ok, sum, index_ok, in
 use crate::rounding::nearest;
 
 // The dollars, or refusal 30.
-#[derive(Drop)]
+#[derive(Clone, Copy)]
 pub enum Answer {
     Dollars(u64),
     OutOfRange,
 }
 
 // The four quarters of a year, in tenths.
-#[derive(Drop)]
+#[derive(Clone, Copy)]
 pub struct Quarters {
     pub q1: u32,
     pub q2: u32,

@@ -1,4 +1,5 @@
 // Steps 1 to 4 of "One interval": effective prices, administered prices, limits over links, the published table and its count.
+#![tactic(auto)]
 ghost use Rattle.std.specs.Prelude.{◌≡◌, false, ℕ, ◌+◌, ◌*◌, ◌≤◌, ◌<◌, length, get_or};
 ghost use Rattle.std.proofs.lemmas.List.Edits.{sets};
 ghost use Rattle.std.specs.Int.{w32};
@@ -17,7 +18,7 @@ use routes::{Limit, Network};
 
 // What the book brings to an interval: its shape, its limits and the position. `markets` is M, services and energy; `from` and `to`
 // are the ends of the additional link, or 255.
-#[derive(Drop)]
+#[derive(Clone, Copy)]
 pub struct Terms {
     pub regions: usize,
     pub markets: usize,

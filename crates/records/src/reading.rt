@@ -8,7 +8,7 @@ use book::record::Settings;
 use codec::{get, get_eight, get_numbers, get_u8, get_u16, get_u32, get_word, get_words, signed64};
 
 // How many numbers each slice of an entry's record holds, and the length of the ring that it is lent.
-#[derive(Drop)]
+#[derive(Clone, Copy)]
 pub struct Lengths {
     pub prices: usize,
     pub marks: usize,

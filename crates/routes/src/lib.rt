@@ -1,4 +1,5 @@
 // Limits that travel over the links between regions (step 4 of "One interval").
+#![tactic(auto)]
 ghost use Rattle.std.specs.Prelude.{◌≡◌, Bool, ℕ, ◌<◌, ◌+◌, ◌-◌, ◌*◌, get_or, nat_abs};
 ghost use Rattle.routes.specs.Limits.{tighter, over, own};
 ghost use Rattle.routes.specs.Links.{extra_of, power_of, power_at, powers_of, step};
@@ -6,7 +7,7 @@ ghost use Rattle.routes.specs.Routes.{limit_of};
 ghost use Rattle.routes.specs.Search.{limit_from, Sized, Linked, LentLinks, Searched};
 
 // No limit, or a limit in ten-thousandths of a cent.
-#[derive(Drop)]
+#[derive(Clone, Copy)]
 pub enum Limit {
     Open,
     Bound(i64),
@@ -41,7 +42,7 @@ fn over(caps: bool, factor: u32, limit: Limit) -> Limit
 }
 
 // The regions of a book and its links: each to its parent, and the additional one from `from` to `to`, or 255 and 255 for none.
-#[derive(Drop)]
+#[derive(Clone, Copy)]
 pub struct Network {
     pub regions: usize,
     pub parents: [u8; 8],

@@ -1,4 +1,5 @@
 // The suspension schedule of one market from four weeks of prices, which are gone through once.
+#![tactic(auto)]
 mod pass;
 
 ghost use Rattle.std.specs.Prelude.{◌≡◌, [], ◌∷◌, length};
@@ -11,7 +12,7 @@ use pricing::holding::{held, limits_ok, lowest};
 use pricing::rounding::rounded;
 
 // What became of a call: the schedule, or the first refusal.
-#[derive(Drop)]
+#[derive(Clone, Copy)]
 pub enum Making {
     Made,
     Sizes,
@@ -21,7 +22,7 @@ pub enum Making {
 }
 
 // The answer: a row of 48 prices for weekdays and one for weekends and holidays, zeros where the call is refused.
-#[derive(Drop)]
+#[derive(Clone, Copy)]
 pub struct Answer {
     pub making: Making,
     pub weekday: [i32; 48],

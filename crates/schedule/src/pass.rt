@@ -76,7 +76,7 @@ fn all_in_range(market: usize, six: [i32; 6]) -> bool
 }
 
 // The first bad price of those before a place, or else the one that many places on.
-fn first_below(bad: usize, from: usize, on: usize) -> usize
+fn first_of(bad: usize, from: usize, on: usize) -> usize
     requires { from + on ≤ 8064 }
     ensures { result ≡ pick (ltb bad from) bad (from + on) }
 {
@@ -84,7 +84,7 @@ fn first_below(bad: usize, from: usize, on: usize) -> usize
 }
 
 // What a half-hour brings: the sum of its prices, and the first bad price with them.
-#[derive(Drop)]
+#[derive(Clone, Copy)]
 struct Half {
     sum: i64,
     bad: usize,
@@ -104,7 +104,7 @@ fn half_of(market: usize, six: [i32; 6], bad: usize, from: usize) -> Half
     }
     Half {
         sum: sum_of(six),
-        bad: first_below(bad, from, first_bad(market, six)),
+        bad: first_of(bad, from, first_bad(market, six)),
     }
 }
 
@@ -153,7 +153,7 @@ fn add_day(
     count_day(halves, row, counts);
     let first = d * (6 * halves);
     // the day's end, while none is bad
-    let mut bad = first_below(found, first, 6 * halves);
+    let mut bad = first_of(found, first, 6 * halves);
     let mut h: usize = 0;
     while h < halves {
         let from = first + 6 * h;

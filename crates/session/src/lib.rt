@@ -1,1 +1,2 @@
 // No code: demand 3 over sequences of C calls.
+#![tactic(auto)]

@@ -1,4 +1,5 @@
 // The day sheet of an image, as text: the library under the program daysheet.
+#![tactic(auto)]
 mod text;
 
 ghost use Rattle.std.specs.Prelude.{◌≡◌, ◌≤◌, length};

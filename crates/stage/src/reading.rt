@@ -59,7 +59,7 @@ fn longer(n: u64, b: u8) -> u64 {
 }
 
 // A number in a line, and the place after it; none is found where the line ends first.
-#[derive(Drop)]
+#[derive(Clone, Copy)]
 struct Found {
     found: bool,
     minus: bool,

@@ -1,4 +1,5 @@
 // A test load that anyone can remake: an interval's prices, marks, flows and factors, drawn from a seed.
+#![tactic(auto)]
 ghost use Rattle.std.specs.Prelude.{◌≡◌, ◌+◌, ◌*◌, ◌%◌, ◌<◌, length, replicate};
 ghost use Rattle.laws.specs.Lists.{tabulate};
 ghost use Rattle.interval_records.specs.Layout.{interval_of};
@@ -10,13 +11,13 @@ use drawing::{factor_of, flow_of, next_seed, price_of};
 use intervals::lent::lent_verdict;
 
 // The last seed with the interval's number and day kind, or the first refusal.
-#[derive(Drop)]
+#[derive(Clone, Copy)]
 pub enum Draw {
     Made { seed: u32, number: u32, kind: u8 },
     Refused(Refusal),
 }
 
-#[derive(Drop)]
+#[derive(Clone, Copy)]
 pub struct Synthetic {
     pub book: Book,
     pub draw: Draw,

@@ -1,0 +1,14 @@
+-- `routes::powers` meets its contract. The loop's invariant: the places passed hold their powers, the others what they held. Assumes nothing.
+use mathlib.Core.Path.{◌≡◌}
+use mathlib.Core.List.{◌++◌}
+use Prim.Native.Nat.{◌-◌, ◌≤◌}
+use lib.ListN.{length, drop}
+use Rattle.laws.specs.Lists.{tabulate}
+use Rattle.routes.specs.Links.{power_at}
+use Rattle.routes.proofs.powers.Given as goal
+
+abbrev pub invariant-loop-k : goal.invariant-loop-k
+invariant-loop-k l = (l.k ≤ 64) × (length l.all ≡ 64) × (l.all ≡ tabulate l.k (power_at l.network l.flows l.factors) ++ drop l.k l.initial.all)
+
+abbrev pub decreases-loop-k : goal.decreases-loop-k
+decreases-loop-k l = 64 - l.k
