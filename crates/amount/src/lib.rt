@@ -1,5 +1,6 @@
 // The text of an amount of cents, as the first part of a caller's buffer.
 #![tactic(auto)]
+
 ghost use Rattle.std.specs.Prelude.{◌≡◌, ◌≤◌, ◌+◌, nat_abs, length};
 ghost use Rattle.amount.specs.Text.{decimal, size_text, paste, amount_text, count_in, shown_in, written_in};
 

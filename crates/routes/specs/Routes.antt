@@ -2,7 +2,7 @@
 use Rattle.std.specs.Prelude.{◌≡◌, Bool, true, false, List, [], ◌∷◌, ◌++◌, ℕ, zero, suc, ◌-◌, ◌<◌, get_or, set, replicate}
 use Rattle.laws.specs.Base.{pick}
 use Rattle.routes.specs.declared.Limit.{Limit}
-use Rattle.routes.specs.declared.Limit.TheVariants.{Open, Bound}
+use Rattle.routes.specs.declared.Limit.TheVariants.{Open}
 use Rattle.routes.specs.Limits.{tighter, over}
 use Rattle.routes.specs.Links.{step}
 

@@ -1,5 +1,6 @@
 // Limits that travel over the links between regions (step 4 of "One interval").
 #![tactic(auto)]
+
 ghost use Rattle.std.specs.Prelude.{◌≡◌, Bool, ℕ, ◌<◌, ◌+◌, ◌-◌, ◌*◌, get_or, nat_abs};
 ghost use Rattle.routes.specs.Limits.{tighter, over, own};
 ghost use Rattle.routes.specs.Links.{extra_of, power_of, power_at, powers_of, step};

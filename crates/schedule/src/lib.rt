@@ -1,5 +1,6 @@
 // The suspension schedule of one market from four weeks of prices, which are gone through once.
 #![tactic(auto)]
+
 mod pass;
 
 ghost use Rattle.std.specs.Prelude.{◌≡◌, [], ◌∷◌, length};

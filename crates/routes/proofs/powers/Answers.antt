@@ -1,10 +1,8 @@
 -- `routes::powers` meets its contract. The loop's invariant: the places passed hold their powers, the others what they held. Assumes nothing.
 use mathlib.Core.Path.{refl}
-use Prim.Native.Nat.{◌-◌}
 use native.Mathlib.Omega.{arith}
 use lib.ListN.{length-set}
 use Rattle.laws.proofs.Lists.{tab-none, tab-step}
-use Rattle.routes.specs.Links.{power_at}
 use Rattle.routes.proofs.powers.Goals as goal
 
 pub loop-k-init : goal.loop-k-init

@@ -1,6 +1,5 @@
 -- `schedule::has_kind` meets its contract. The loop's invariant: the test of the days passed. Assumes nothing.
 use mathlib.Core.Path.{refl}
-use Prim.Native.Nat.{◌-◌}
 use native.Mathlib.Omega.{arith}
 use lib.Dec.{eqb}
 use lib.ListN.{get_or}

@@ -1,6 +1,6 @@
 -- `schedule::row` meets its contract. The loop's invariant: the half-hours passed are filled, the others still zero. Assumes nothing.
 use mathlib.Core.Path.{◌≡◌, ◌∙◌}
-use Prim.Native.Nat.{◌+◌, ◌*◌, ◌-◌}
+use Prim.Native.Nat.{◌+◌, ◌*◌}
 use native.Mathlib.Omega.{arith}
 use borrow.Author.Rules.{rules}
 use lib.IntN.{pos}
@@ -8,7 +8,6 @@ use lib.ListN.{get_or}
 use mir.Syntax.{w32, w64}
 use mir.Val.{SFits, to_z, of_z}
 use mir.Facts.{to_z-of_z}
-use Rattle.schedule.specs.Working.{held_mean}
 use Rattle.schedule.proofs.Schedules.{filled_none, filled-step}
 use Rattle.schedule.proofs.row.Goals as goal
 

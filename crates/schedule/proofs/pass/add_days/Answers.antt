@@ -1,6 +1,6 @@
 -- `schedule::pass::add_days` meets its contract. The loop's invariant is what a day promises. Assumes nothing.
 use mathlib.Core.Path.{◌≡◌, refl}
-use Prim.Native.Nat.{◌*◌, ◌-◌}
+use Prim.Native.Nat.{◌*◌}
 use native.Mathlib.Omega.{arith}
 use Rattle.laws.specs.Lists.{first_below}
 use Rattle.schedule.proofs.pass.add_days.Goals as goal

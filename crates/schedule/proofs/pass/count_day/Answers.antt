@@ -1,6 +1,6 @@
 -- `schedule::pass::count_day` meets its contract. The loop's invariant: the half-hours passed are counted. Assumes nothing.
 use mathlib.Core.Path.{◌≡◌, ap, ◌∙◌}
-use Prim.Native.Nat.{ℕ, ◌+◌, ◌-◌}
+use Prim.Native.Nat.{ℕ, ◌+◌}
 use native.Mathlib.Omega.{arith}
 use lib.ListN.{get_or}
 use Rattle.laws.proofs.Lists.{puts_none, puts-step, get_or-puts-other}

@@ -1,0 +1,5 @@
+-- The measure of `amount::put_decimal`. Assumes nothing.
+use Rattle.amount.proofs.+put_decimal.Given as goal
+
+abbrev pub decreases-put_decimal : goal.decreases-put_decimal
+decreases-put_decimal l = l.n
