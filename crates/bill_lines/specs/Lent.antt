@@ -1,5 +1,5 @@
 -- The first refusals of a bill: the book, the slices' lengths and the region. Assumes nothing.
-use Rattle.std.specs.Prelude.{Bool, not, ◌&&◌, ℕ, ◌*◌, ltb, eqb, length}
+use Rattle.std.specs.Prelude.{Bool, not, ◌&&◌, ℕ, ◌*◌, ltb, eqb}
 use Rattle.laws.specs.Base.{pick}
 use Rattle.pricing.specs.Verdict.{Verdict, accepted, refused}
 use Rattle.book.specs.declared.record.Book.{Book}

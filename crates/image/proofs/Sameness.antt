@@ -201,6 +201,6 @@ pub same-stored : (second : Bool) {a b : Book} {r s : List ℤ} → Same a r b s
 same-stored second {a} {b} {r} {s} p v w x y buffer =
     let sizes : ring_size a.regions a.services a.window ≡ ring_size b.regions b.services b.window = rw (p.regions, p.services, p.window) in
     let prices : (q : ℕ) → q < market_count a → in_order a r q ≡ in_order (with_nexts a b.nexts) s q =
-        subst (λ (c : Book). (q : ℕ) → q < market_count a → in_order a r q ≡ in_order c s q) (sym (same-book p)) p.prices in
+    subst (λ (c : Book). (q : ℕ) → q < market_count a → in_order a r q ≡ in_order c s q) (sym (same-book p)) p.prices in
     let e : stored second (with_nexts a b.nexts) s buffer ≡ record { verdict = (stored second a r buffer).verdict; length = (stored second a r buffer).length; book = with_nexts a b.nexts; buffer = (stored second a r buffer).buffer } = nexts-stored second a b.nexts r s prices v (rw (same-book p) w) (x ∙ sizes ∙ sym y) buffer in
     rw (same-book p) at e

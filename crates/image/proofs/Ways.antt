@@ -17,7 +17,7 @@ use Rattle.book.specs.declared.record.Book.{Book}
 use Rattle.book.specs.declared.record.Refusal.{Refusal}
 use Rattle.book.specs.declared.record.Answer.{Answer}
 use Rattle.book.specs.declared.record.Answer.TheVariants.{Accepted, Refused}
-use Rattle.book.specs.Record.{closed, verdict_of, verdict, is_accepted}
+use Rattle.book.specs.Record.{closed, verdict, is_accepted}
 use Rattle.book.specs.Validity.{valid}
 use Rattle.book.proofs.Validities.{Valid, is-valid}
 use Rattle.book.proofs.Ways.{is-accepted, is-refused}

@@ -1,5 +1,5 @@
 -- Storing a book as an image. Assumes nothing.
-use Rattle.std.specs.Prelude.{Bool, true, false, not, ◌&&◌, ◌||◌, List, ◌++◌, ℕ, ◌+◌, ◌*◌, ◌/◌, ◌%◌, ltb, eqb, ℤ, pos, length, get_or, drop}
+use Rattle.std.specs.Prelude.{Bool, not, ◌&&◌, ◌||◌, List, ◌++◌, ℕ, ◌+◌, ◌*◌, ◌/◌, ◌%◌, ltb, eqb, ℤ, pos, length, get_or, drop}
 use Rattle.std.specs.Int.Signed.{le_z}
 use Rattle.laws.specs.Base.{pick}
 use Rattle.laws.specs.Lists.{all_below, total}

@@ -2,11 +2,10 @@
 use mathlib.Core.Path.{◌≡◌, sym, ap, ◌∙◌}
 use mathlib.Core.Bool.{Bool, true, false, ◌&&◌}
 use Prim.Native.Nat.{ℕ, ◌*◌}
-use borrow.Author.Tests.{not-true, not-false}
-use lib.Dec.{ltb, eqb}
+use borrow.Author.Tests.{lt-ltb, le-ltb}
+use lib.Dec.{eqb}
 use Rattle.book.specs.declared.record.Book.{Book}
 use Rattle.book.specs.Record.{table_size, ring_size}
-use Rattle.book.specs.Validity.{valid}
 use Rattle.bill_lines.specs.declared.lent.Lengths.{Lengths}
 use Rattle.bill_lines.specs.Lent.{lengths_ok}
 use Rattle.bill_lines.proofs.Lents.{lent-10, lent-11, lent-21, lent-0}
@@ -32,36 +31,21 @@ returns-then-not-valid c =
 
 pub returns-then-not-lengths-ring : goal.returns-then-not-lengths-ring
 returns-then-not-lengths-ring c =
-    let asked : tie.After-ring-size = c in
-    let told : tie.Else1 = (asked).before in
-    let e = told in
-    let a = (start e).args in
-    let r = asked in
-    let l : lengths_ok a.book a.lengths ≡ false =
-    sym (compared_is a.book a.lengths r.ring-size.result r.ring-size.ensures)
-    ∙ not-true (compared a.book a.lengths r.ring-size.result) c.if-not-lengths-ring.true-raw in
-    lent-11 a.book a.lengths a.region (good e) l
+    let a = c.args in
+    let r = c.ring_size-ring in
+    let l : lengths_ok a.book a.lengths ≡ false = sym (compared_is a.book a.lengths r.result r.ensures) ∙ c.if-not-lengths-ring.true in
+    lent-11 a.book a.lengths a.region (sym c.valid.ensures ∙ c.if-not-valid.false) l
 
 pub returns-then-not-region-book : goal.returns-then-not-region-book
 returns-then-not-region-book c =
-    let asked : tie.After-ring-size = c in
-    let told : tie.Else1 = (asked).before in
-    let equal : let a = (start (told)).args in lengths_ok a.book a.lengths ≡ true = (let a = (start (told)).args in
-    let r = asked in
-    sym (compared_is a.book a.lengths r.ring-size.result r.ring-size.ensures)
-    ∙ not-false (compared a.book a.lengths r.ring-size.result) c.if-not-lengths-ring.false-raw) in
-    let e = told in
-    let a = (start e).args in
-    lent-21 a.book a.lengths a.region (good e) (equal) (not-true (ltb a.region a.book.regions) c.if-not-region-book.true-raw)
+    let a = c.args in
+    let r = c.ring_size-ring in
+    let l : lengths_ok a.book a.lengths ≡ true = sym (compared_is a.book a.lengths r.result r.ensures) ∙ c.if-not-lengths-ring.false in
+    lent-21 a.book a.lengths a.region (sym c.valid.ensures ∙ c.if-not-valid.false) l (le-ltb _ _ c.if-not-region-book.true)
 
 pub returns : goal.returns
 returns c =
-    let asked : tie.After-ring-size = c in
-    let told : tie.Else1 = (asked).before in
-    let equal : let a = (start (told)).args in lengths_ok a.book a.lengths ≡ true = (let a = (start (told)).args in
-    let r = asked in
-    sym (compared_is a.book a.lengths r.ring-size.result r.ring-size.ensures)
-    ∙ not-false (compared a.book a.lengths r.ring-size.result) c.if-not-lengths-ring.false-raw) in
-    let e = told in
-    let a = (start e).args in
-    lent-0 a.book a.lengths a.region (good e) (equal) (not-false (ltb a.region a.book.regions) c.if-not-region-book.false-raw)
+    let a = c.args in
+    let r = c.ring_size-ring in
+    let l : lengths_ok a.book a.lengths ≡ true = sym (compared_is a.book a.lengths r.result r.ensures) ∙ c.if-not-lengths-ring.false in
+    lent-0 a.book a.lengths a.region (sym c.valid.ensures ∙ c.if-not-valid.false) l (lt-ltb _ _ c.if-not-region-book.false)
