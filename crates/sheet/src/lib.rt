@@ -1,5 +1,6 @@
 // The day sheet of an image, as text: the library under the program daysheet.
 #![tactic(auto)]
+
 mod text;
 
 ghost use Rattle.std.specs.Prelude.{◌≡◌, ◌≤◌, length};

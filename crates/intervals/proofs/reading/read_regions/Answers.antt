@@ -1,14 +1,9 @@
 -- `intervals::reading::read_regions` meets its contract. The loop's invariant: the numbers of the regions passed are stored,
 -- region r's from record r. Assumes nothing.
 use mathlib.Core.Path.{◌≡◌, refl, ◌∙◌}
-use Prim.Native.Nat.{◌-◌, ◌+◌, ◌*◌}
 use native.Mathlib.Omega.{arith}
-use lib.Seq.{sets}
-use Rattle.laws.specs.Lists.{tabulate}
-use Rattle.laws.specs.Bytes.{price_at}
 use Rattle.laws.proofs.Lists.{tab-none, tab-step}
 use Rattle.laws.proofs.Rows.{rows_none, rows_step, rows-done}
-use Rattle.interval_records.specs.Record.{record_place}
 use Rattle.intervals.specs.Reading.{price_from}
 use Rattle.intervals.proofs.Ways.{row_of}
 use Rattle.intervals.proofs.reading.read_regions.Goals as goal

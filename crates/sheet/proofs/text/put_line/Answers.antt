@@ -44,7 +44,10 @@ returns c =
     let third : (c.put_number-c.result ≤ c.args.at + 14) × (length c.put_number-c.new.out ≡ length c.args.out.now) = ((omega (arith, c.put_number-c.ensures.ends, ended-most 4 c.args.counted 44 (omega (arith, c.ranges.counted)), (second).0), c.put_number-c.auto.out ∙ (second).1)) in
     let fourth : (c.put_sum-d.result ≤ c.args.at + 36) × (length c.put_sum-d.new.out ≡ length c.args.out.now) = (let e = simp (signed, c.ranges.sum) at c.put_sum-d.ensures in
     (omega (arith, e.ends, sum-most c.args.sum c.ranges.sum, (third).0), c.put_sum-d.auto.out ∙ (third).1)) in
-    let e = c.put_number.ensures in record { put = line-put c.args.region c.args.market c.args.counted c.args.sum c.args.administered c.args.at c.args.out.now
+    let e = c.put_number.ensures in record {
+      put = line-put c.args.region c.args.market c.args.counted c.args.sum c.args.administered c.args.at c.args.out.now
           (omega (arith, c.ranges.region)) (omega (arith, c.ranges.market)) (omega (arith, c.ranges.counted)) c.ranges.sum (omega (arith, c.ranges.administered)) c.requires
           c.put_number-a.ensures c.put_number-b.ensures c.put_number-c.ensures
-          (simp (signed, c.ranges.sum) at c.put_sum-d.ensures) c.put_number.ensures; upper_bound = omega (arith, e.ends, ended-most 2 c.args.administered 10 (omega (arith, c.ranges.administered)), (fourth).0) }
+          (simp (signed, c.ranges.sum) at c.put_sum-d.ensures) c.put_number.ensures;
+      upper_bound = omega (arith, e.ends, ended-most 2 c.args.administered 10 (omega (arith, c.ranges.administered)), (fourth).0);
+    }

@@ -1,6 +1,5 @@
 -- `sheet::text::put_text` meets its contract. The loop's invariant: the first i bytes stand in the buffer. Assumes nothing.
 use mathlib.Core.Path.{◌≡◌}
-use Prim.Native.Nat.{◌-◌}
 use native.Mathlib.Omega.{arith}
 use native.Mathlib.Numerals.{add-one}
 use lib.ListN.{length, length-set}
