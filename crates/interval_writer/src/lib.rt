@@ -1,3 +1,4 @@
 // Interval records from the plant bus, written.
 #![tactic(auto)]
+
 pub mod writing;

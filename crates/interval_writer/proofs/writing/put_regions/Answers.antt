@@ -1,7 +1,6 @@
 -- `interval_writer::writing::put_regions` meets its contract. What is still to go is the same at every turn. Assumes nothing.
 use mathlib.Core.Path.{◌≡◌, sym, ◌∙◌}
-use Prim.Native.Nat.{ℕ, ◌<◌, ◌≤◌, ◌-◌, ◌+◌, ◌*◌}
-use native.Mathlib.Nat.{mul-le-mul_right, suc-mul}
+use Prim.Native.Nat.{◌+◌, ◌*◌}
 use native.Mathlib.Omega.{arith}
 use lib.IntN.{pos}
 use lib.ListN.{length, get_or}
@@ -16,35 +15,28 @@ use Rattle.interval_writer.proofs.Writes.{record-put, regions-step, regions-done
 use borrow.Author.Rules.{rules}
 use Rattle.interval_writer.proofs.writing.put_regions.Goals as goal
 
--- region r of `regions`, of parts of equal size
-room_at : (r regions size part all now : ℕ) → size ≡ part → r < regions → 12 + regions * part ≤ all → now ≡ all → 12 + r * size + part ≤ now
-room_at r regions size part all now e h l k = rw e (omega (arith, mul-le-mul_right part h, suc-mul r part))
-
-row_at : (r regions part all : ℕ) → r < regions → regions * part ≤ all → r * part + part ≤ all
-row_at r regions part all h l = omega (arith, mul-le-mul_right part h, suc-mul r part)
-
 pub loop-r-preserved : goal.loop-r-preserved
 loop-r-preserved c =
-    let q = c.loop-r in
+    let l = c.loop-r in
     let size = c.region_length-size.result in
     let a = c.args in
     let M = markets_of a.services in
     let v = interval_of 0 0 a.prices.now a.marked.now a.flows.now a.factors.now in
-    let z = get_or a.flows.now c.loop-r.r (pos 0) in
+    let z = get_or a.flows.now l.r (pos 0) in
     let flow = to_z w32 (of_z w32 z) in
     let f : SFits w32 z = search rules in
     let e : size ≡ region_length M = c.region_length-size.ensures.0 in
     let n = c.put_region.new.buffer in
-    let at = 12 + c.loop-r.r * size in
-    let o = c.buffer-1 in
-    let w : n ≡ sets o at (region_record M v c.loop-r.r) = record-put M c.loop-r.r v flow o n at (to_z-of_z f) c.put_region.ensures in
-    let g : length (region_record M v c.loop-r.r) ≡ size = region-length M v c.loop-r.r ∙ sym e in (
+    let at = 12 + l.r * size in
+    let o = l.buffer in
+    let w : n ≡ sets o at (region_record M v l.r) = record-put M l.r v flow o n at (to_z-of_z f) c.put_region.ensures in
+    let g : length (region_record M v l.r) ≡ size = region-length M v l.r ∙ sym e in (
       omega arith,
-      c.put_region.auto.buffer ∙ c.loop-r.invariant.1,
-      rw w (regions-step (region_record M v) size 12 c.loop-r.buffer _ a.regions c.loop-r.r c.loop-r-test.true g c.loop-r.invariant.2),
+      c.put_region.auto.buffer ∙ l.invariant.1,
+      rw w (regions-step (region_record M v) size 12 l.buffer _ a.regions l.r c.loop-r-test.true g l.invariant.2),
     )
 
 pub returns : goal.returns
 returns c =
     let l = c.loop-r in
-    regions-done _ c.region_length-size.result 12 c.loop-r.buffer _ _ _ c.loop-r.r (omega arith) c.loop-r.invariant.2
+    regions-done _ c.region_length-size.result 12 l.buffer _ _ _ l.r (omega arith) l.invariant.2

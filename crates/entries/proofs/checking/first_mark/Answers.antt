@@ -1,0 +1,17 @@
+-- `entries::checking::first_mark` meets its contract. The loop's invariant: every mark passed is 0 or 1. Assumes nothing.
+use mathlib.Core.Path.{◌≡◌, sym, ◌∙◌}
+use Prim.Native.Nat.{◌-◌}
+use native.Mathlib.Omega.{arith}
+use lib.ListN.{length}
+use Rattle.laws.proofs.Lists.{first_below-found, first_below-none}
+use Rattle.entries.proofs.checking.first_mark.Goals as goal
+
+pub returns-then-not-marked-r : goal.returns-then-not-marked-r
+returns-then-not-marked-r c =
+    let l = c.loop-r in sym (first_below-found _ c.loop-r.r _ (omega arith) c.loop-r.invariant.1 c.if-not-marked-r.true-raw)
+
+pub returns : goal.returns
+returns c =
+    let l = c.loop-r in
+    let e : c.loop-r.r ≡ length c.args.marked.now = omega arith in
+    e ∙ sym (first_below-none _ _ (λ i h. c.loop-r.invariant.1 i (omega arith)))
