@@ -16,7 +16,7 @@ use Rattle.laws.proofs.Fields.{part_then}
 use Rattle.laws.proofs.Joined.{take-run, length-joined, sum_same}
 use Rattle.laws.proofs.Lists.{run-same}
 use Rattle.laws.proofs.Tests.{by-test, true-is}
-use Rattle.pricing.specs.Verdict.{accepted, refused}
+use Rattle.pricing.specs.Verdict.{refused}
 use Rattle.book.specs.declared.record.Book.{Book}
 use Rattle.book.specs.declared.record.Refusal.{Refusal}
 use Rattle.book.specs.declared.record.Answer.{Answer}

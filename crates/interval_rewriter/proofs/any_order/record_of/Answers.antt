@@ -1,6 +1,5 @@
 -- `interval_rewriter::any_order::record_of` meets its contract. The loop's invariant: no record passed is of the region. Assumes nothing.
 use mathlib.Core.Path.{◌≡◌, sym, ◌∙◌}
-use Prim.Native.Nat.{◌-◌}
 use native.Mathlib.Omega.{arith}
 use borrow.Author.Tests.{eq-eqb}
 use Rattle.laws.proofs.Lists.{first_below-found, first_below-none}
