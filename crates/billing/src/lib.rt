@@ -1,5 +1,6 @@
 // Holding a retailer's bill against the rules: each line against the published price of its interval.
 #![tactic(auto)]
+
 ghost use Rattle.std.specs.Prelude.{◌≡◌, ◌≤◌, ◌<◌, length};
 ghost use Rattle.book.specs.Record.{verdict};
 ghost use Rattle.bill_lines.specs.Lines.{lines_of};

@@ -1,5 +1,6 @@
 // An interval of a day: read from its records, then entered.
 #![tactic(auto)]
+
 ghost use Rattle.std.specs.Prelude.{◌≡◌, ◌*◌, ◌≤◌, ◌<◌, length};
 ghost use Rattle.book.specs.Record.{markets_of};
 ghost use Rattle.interval_records.specs.Layout.{interval_of};

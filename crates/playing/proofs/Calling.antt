@@ -1,5 +1,5 @@
 -- The call at a place, by its kind: what the functions for it ask, and what they make together. Assumes nothing.
-use mathlib.Core.Path.{◌≡◌, refl, sym, ◌∙◌, subst}
+use mathlib.Core.Path.{◌≡◌, refl, sym, ◌∙◌}
 use mathlib.Core.Bool.{Bool, true, false}
 use mathlib.Core.List.{List, ◌++◌}
 use mathlib.Core.Logic.{◌⊎◌, inl, inr}
@@ -15,7 +15,7 @@ use Rattle.book.specs.declared.record.Book.{Book}
 use Rattle.book_calls.specs.Setting.{set_threshold, set_limits}
 use Rattle.book_calls.specs.Report.{report_of}
 use Rattle.image.specs.Storing as Storing
-use Rattle.records.specs.Reading.{kind_at, lengths_at, entry_size, signed_at, factors_at, call_size, answer_size, goes}
+use Rattle.records.specs.Reading.{kind_at, lengths_at, entry_size, signed_at, factors_at, call_size, answer_size}
 use Rattle.records.specs.Writing.{plain_record, report_record}
 use Rattle.playing.specs.Playing.{State, state_of, room_of, playable, threshold_in, cap_in, floor_in, region_in, market_in, entered_at, entered_record, restart_verdict, swapped, restarted_book, reloaded, step, swaps}
 use Rattle.playing.specs.Fed.{Lengths}

@@ -1,5 +1,5 @@
 -- The call at a place, as the ledger machine is fed it. Assumes nothing.
-use Rattle.std.specs.Prelude.{Bool, true, false, List, ℕ, eqb, ℤ, pos, replicate}
+use Rattle.std.specs.Prelude.{false, List, ℕ, eqb, pos, replicate}
 use Rattle.laws.specs.Base.{pick}
 use Rattle.ledger.specs.Calls.{Call, entry, threshold, limits, report, restart}
 use Rattle.records.specs.Reading.{Room, kind_at, lengths_at, entry_at, entry_number, table_at}

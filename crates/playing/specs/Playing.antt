@@ -1,11 +1,11 @@
 -- One call of a replay: what it makes of the book and of all that is lent. Assumes nothing.
-use Rattle.std.specs.Prelude.{Bool, true, false, not, ◌&&◌, ◌||◌, List, ◌++◌, ℕ, ◌+◌, ◌-◌, eqb, ℤ, length, take, drop}
+use Rattle.std.specs.Prelude.{Bool, false, List, ◌++◌, ℕ, ◌+◌, ◌-◌, eqb, ℤ, length, take, drop}
 use Rattle.std.proofs.lemmas.List.Edits.{sets}
 use Rattle.std.specs.Int.{w32, w64}
 use Rattle.std.proofs.Common.{to_z}
 use Rattle.laws.specs.Base.{pick}
 use Rattle.laws.specs.Bytes.{number_at}
-use Rattle.pricing.specs.Verdict.{Verdict, accepted}
+use Rattle.pricing.specs.Verdict.{Verdict}
 use Rattle.book.specs.declared.record.Book.{Book}
 use Rattle.book.specs.Record.{is_accepted}
 use Rattle.book_calls.specs.Setting as Setting
