@@ -1,0 +1,30 @@
+-- `capi::guxhamole_index` meets its contract: the dollars are small enough for a signed number. Assumes nothing.
+use mathlib.Core.Path.{◌∙◌}
+use Prim.Native.Nat.{◌≤◌}
+use native.Mathlib.Omega.{arith}
+use mir.Syntax.{w64}
+use mir.Facts.{to_z_pos}
+use Rattle.laws.proofs.Integers.{abs-fits}
+use Rattle.pricing.proofs.Indexes.{dollars-most}
+use Rattle.capi.specs.Host.{index_answer}
+use Rattle.capi.proofs.Answers.{dollars-are, in-dollars, out_of_range}
+use Rattle.capi.proofs.guxhamole_index.Goals as goal
+
+pub overflow_cast-result : goal.overflow_cast-result
+overflow_cast-result c =
+    let small : c.in-Dollars.dollars ≤ 4000000000000000 = (let i = c.indexed-answer in
+    rw (dollars-are c.indexed-answer.result c.indexed-answer.ensures c.in-Dollars.dollars c.in-Dollars.is) (dollars-most _ _ _ _)) in
+    abs-fits w64 _ (omega (arith, small))
+
+pub returns-in-Dollars : goal.returns-in-Dollars
+unfolding index_answer
+returns-in-Dollars c =
+    let small : c.in-Dollars.dollars ≤ 4000000000000000 = (let i = c.indexed-answer in
+    rw (dollars-are c.indexed-answer.result c.indexed-answer.ensures c.in-Dollars.dollars c.in-Dollars.is) (dollars-most _ _ _ _)) in
+    let i = c.indexed-answer in
+    to_z_pos w64 (omega (arith, small)) ∙ in-dollars c.indexed-answer.result c.indexed-answer.ensures _ c.in-Dollars.is
+
+pub returns-in-OutOfRange : goal.returns-in-OutOfRange
+unfolding index_answer
+returns-in-OutOfRange c =
+    let i = c.indexed-answer in out_of_range c.indexed-answer.result c.indexed-answer.ensures c.in-OutOfRange.is
