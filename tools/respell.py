@@ -47,6 +47,8 @@ ONLY = {
     "seen_by": ["face/proofs/Answers.antt", "capi/proofs/"],
     "first_below": ["interval_rewriter/proofs/"],
 }
+# Functions of src/ that have a name of BY_HAND: they keep it, and so do their proofs and edits.
+KEPT = {"first_of": ["schedule/src/pass.rt", "schedule/edits/later_bad_kept.edit", "schedule/proofs/pass/"]}
 # A part of a name that its dashes leave, where the whole is not by hand: `firstOf-split`.
 PARTS = {"firstOf": "first_below", "first_of": "first_below"}
 WORD = re.compile(r"(?<![\w'′-])[A-Za-z_][\w'′₀-₉-]*")
@@ -68,6 +70,8 @@ def turned(path, text):
     def one(m):
         w = m.group(0)
         if w in ONLY and not any(part in path for part in ONLY[w]):
+            return w
+        if w in KEPT and any(part in path for part in KEPT[w]):
             return w
         return respelt(w)
 

@@ -1,7 +1,7 @@
 /* The functions that a host in C11 or C++17 calls: a book of administered prices that the host keeps in its own memory, and
    beside it the intervals left before a period, the records of intervals, the check of a retailer's bill, synthetic intervals for
    tests, the image check, the schedule maker, the index, the amount text and the replay of lists of calls. Link with libcapi.a, which
-   `rt staticlib capi` writes to target/staticlib, for x86-64 Linux alone. docs/REFUSALS.md has every number that they answer: its
+   `tools/build` writes to target/staticlib, for x86-64 Linux alone. docs/REFUSALS.md has every number that they answer: its
    meaning, its place and what a host should do. host/c/box.c is a host to copy.
 
    Proved of every function, for all arguments: it reads and writes only what it is lent, allocates nothing, keeps no pointer

@@ -1,5 +1,5 @@
 -- The closed book, the sizes of the lent slices, and the paper's number and place of every refusal. Assumes nothing.
-use Rattle.std.specs.Prelude.{Bool, not, List, ℕ, ◌+◌, ◌*◌, eqb, pos, replicate}
+use Rattle.std.specs.Prelude.{Bool, not, ℕ, ◌+◌, ◌*◌, eqb, pos, replicate}
 use Rattle.laws.specs.Base.{pick}
 use Rattle.pricing.specs.Verdict.{Verdict, accepted, refused, refused_at}
 use Rattle.book.specs.declared.record.Book.{Book}

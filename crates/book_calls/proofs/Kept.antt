@@ -1,7 +1,7 @@
 -- A book that an accepted call hands back is accepted by rule 10, a refused call hands back the lent book, and a setting moves
 -- no report. Assumes nothing.
 use mathlib.Core.Path.{◌≡◌, refl, sym, ap, ◌∙◌}
-use mathlib.Core.Bool.{Bool, true, false, not, ◌&&◌}
+use mathlib.Core.Bool.{Bool, true, false, ◌&&◌}
 use mathlib.Core.List.{List}
 use mathlib.Core.Logic.{inr}
 use Prim.Native.Nat.{ℕ, ◌<◌}
@@ -9,7 +9,6 @@ use native.Mathlib.Omega.{arith}
 use borrow.Author.Tests.{eqb-true}
 use lib.IntN.{ℤ, pos}
 use lib.ListN.{length, replicate, get_or, get_or-replicate}
-use Rattle.laws.specs.Base.{pick}
 use Rattle.laws.proofs.Tests.{and_left, and_right, by-test, never}
 use Rattle.pricing.specs.Verdict.{Verdict, accepted, refused}
 use Rattle.pricing.specs.Holding.{limits_ok}

@@ -1,6 +1,6 @@
 -- The number that answers a host for each case of the index. Assumes nothing.
 use mathlib.Core.Path.{◌≡◌, sym, ap, ◌∙◌}
-use Prim.Native.Nat.{ℕ, ◌≤◌}
+use Prim.Native.Nat.{ℕ}
 use lib.IntN.{pos, negsuc}
 use Rattle.pricing.specs.declared.indexing.Answer.{Answer}
 use Rattle.pricing.specs.declared.indexing.Answer.TheVariants.{Dollars, OutOfRange}

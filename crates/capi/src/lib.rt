@@ -2,6 +2,7 @@
 // amount text, the index, the image check and the replay, over plain numbers and the host's own memory. Each function is one call of the
 // proved operation.
 #![tactic(auto)]
+
 ghost use Rattle.std.specs.Prelude.{◌≡◌, false, true, ◌≤◌, length};
 ghost use Rattle.std.proofs.lemmas.List.Edits.{sets};
 ghost use Rattle.amount.specs.Text.{amount_text, count_in, written_in};

@@ -1,8 +1,7 @@
 // Reads an image from standard input and writes its day sheet: this file only moves bytes, `sheet` says what they are.
 #![tactic(auto)]
+
 ghost use Rattle.std.specs.Prelude.{◌≡◌, length};
-
-
 
 // One byte more than an image may have, so that a longer input shows.
 fn room() -> [u8; 65537]

@@ -1,5 +1,6 @@
 // One draw of a test load: the next seed, and the numbers that are made of what it gives.
 #![tactic(auto)]
+
 ghost use Rattle.std.specs.Prelude.{◌≡◌};
 ghost use Rattle.drawing.specs.Drawing.{next_seed, energy_of, price_of, flow_of, factor_of};
 

@@ -1,5 +1,5 @@
 -- The refusals of an entry after 10, as functions of the book's shape, the entries taken and the arguments. Assumes nothing.
-use Rattle.std.specs.Prelude.{Bool, true, false, not, ◌&&◌, ◌||◌, List, ℕ, ◌*◌, ◌/◌, ◌%◌, eqb, leb, ltb, ℤ, pos, length, get_or}
+use Rattle.std.specs.Prelude.{Bool, not, ◌&&◌, ◌||◌, List, ℕ, ◌*◌, ◌/◌, ◌%◌, eqb, leb, ltb, ℤ, pos, length, get_or}
 use Rattle.laws.specs.Base.{pick}
 use Rattle.laws.specs.Lists.{first_below}
 use Rattle.pricing.specs.Verdict.{Verdict, accepted, refused, refused_at}

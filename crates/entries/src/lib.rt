@@ -1,5 +1,6 @@
 // The entry of an interval: its refusals, and the whole call, steps 1 to 6.
 #![tactic(auto)]
+
 mod checking;
 
 ghost use Rattle.std.specs.Prelude.{◌≡◌, ◌<◌, length};

@@ -14,7 +14,7 @@ use Rattle.book.specs.Validity.{valid}
 use Rattle.book.proofs.Places.{Placeless, no_place, taken, either}
 use Rattle.book_calls.specs.Opening as Opening
 use Rattle.book_calls.specs.Setting as Setting
-use Rattle.book_calls.specs.Report.{Numbers, nothing, report_verdict, report_of}
+use Rattle.book_calls.specs.Report.{Numbers, report_verdict, report_of}
 use Rattle.head.specs.Layout.{length_of}
 use Rattle.image.specs.Storing as Storing
 use Rattle.image.specs.Storing.{prices_ok, kind_tells, store_verdict, stored}

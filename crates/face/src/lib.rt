@@ -1,5 +1,6 @@
 // What a host in C is answered: the answers of the calls on a book and of the schedule maker, as plain structs laid out as in C.
 #![tactic(auto)]
+
 ghost use Rattle.std.specs.Prelude.{◌≡◌};
 ghost use Rattle.billing.specs.Billing as Billing;
 ghost use Rattle.book.specs.Record as Record;

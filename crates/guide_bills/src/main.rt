@@ -1,6 +1,7 @@
 // Holds the bills of its standard input against the records there, call by call: the worked cases of request 2026-09 against the stored
 // output. The cases, and the request's words beside them, are in the file stdin.
 #![tactic(auto)]
+
 mod lines;
 
 fn main() {

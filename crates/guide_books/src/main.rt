@@ -1,6 +1,7 @@
 // Plays the books of its standard input, call by call: the worked cases of document 01 that are not marked (*), and more, against the
 // stored output. The cases, and the document's words beside them, are in the file stdin.
 #![tactic(auto)]
+
 mod lines;
 
 fn main() {

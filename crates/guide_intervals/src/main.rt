@@ -2,6 +2,7 @@
 // 2026-07, and of the reader those of 2026-08, against the stored output. The cases, and the requests' words beside them, are in the file
 // stdin.
 #![tactic(auto)]
+
 mod lines;
 mod lists;
 

@@ -16,7 +16,6 @@ use Rattle.pricing.specs.Holding.{held}
 use Rattle.pricing.specs.Carrying.{carried}
 use Rattle.pricing.specs.Passing.{cents}
 use Rattle.book.specs.declared.record.Book.{Book}
-use Rattle.book.specs.declared.record.Settings.{Settings}
 use Rattle.book.specs.Record.{markets_of}
 use Rattle.book.specs.Validity.{valid}
 use Rattle.book_calls.specs.Opening.{opened, open_verdict, fresh}

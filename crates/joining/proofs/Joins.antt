@@ -1,26 +1,23 @@
 -- The prices that join the windows are in range where the entry's are: limits only draw a price towards zero. Assumes nothing.
-use mathlib.Core.Path.{◌≡◌, refl, ap, ◌∙◌}
-use mathlib.Core.Bool.{Bool, true, false, not, ◌&&◌}
+use mathlib.Core.Path.{◌≡◌}
+use mathlib.Core.Bool.{Bool, true, false}
 use mathlib.Core.List.{List}
-use Prim.Native.Nat.{ℕ, ◌+◌, ◌*◌, ◌/◌, ◌%◌, ◌≤◌, ◌<◌}
+use Prim.Native.Nat.{ℕ, ◌*◌, ◌≤◌, ◌<◌}
 use native.Mathlib.Omega.{arith}
-use borrow.Author.Tests.{eqb-true, eq-eqb}
+use borrow.Author.Tests.{eqb-true}
 use lib.Dec.{eqb}
 use lib.IntN.{ℤ, pos, negsuc, nat_abs}
 use lib.ListN.{get_or}
-use lib.Signed.{le_z}
-use Rattle.laws.specs.Base.{pick}
-use Rattle.laws.specs.Lists.{tabulate}
 use Rattle.laws.proofs.Integers.{le_test, abs-parts}
 use Rattle.laws.proofs.Lists.{get_d_tabulate, flat-div, flat-mod, flat-lt}
-use Rattle.laws.proofs.Tests.{and_left, by-test}
+use Rattle.laws.proofs.Tests.{by-test}
 use Rattle.pricing.specs.Holding.{is_energy, in_range}
 use Rattle.publishing.specs.declared.Terms.{Terms}
 use Rattle.publishing.specs.Entry.{Offer, Entry, TermsOk, LinksOk, flat}
 use Rattle.publishing.specs.Effective.{is_marked}
 use Rattle.publishing.specs.Capped.{administered}
-use Rattle.publishing.specs.Published.{published, published_at}
-use Rattle.joining.specs.Joined.{joined_at, joined_prices, joined}
+use Rattle.publishing.specs.Published.{published}
+use Rattle.joining.specs.Joined.{joined_at, joined}
 use Rattle.publishing.proofs.Bounded.{bounded}
 
 -- a number of that size is in energy's range

@@ -1,6 +1,6 @@
 -- The way by which the code makes the prices that join: a copy of the entry's, and in it the table's energy where a region's energy isn't
 -- administered. The promise of an entry does not speak of these. Assumes nothing.
-use Rattle.std.specs.Prelude.{Bool, not, ◌&&◌, List, ℕ, ◌*◌, ◌/◌, ◌%◌, ℤ, pos, get_or}
+use Rattle.std.specs.Prelude.{not, ◌&&◌, List, ℕ, ◌*◌, ◌/◌, ◌%◌, ℤ, pos, get_or}
 use Rattle.laws.specs.Base.{pick}
 use Rattle.laws.specs.Lists.{tabulate}
 use Rattle.pricing.specs.Holding.{is_energy}

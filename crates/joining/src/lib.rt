@@ -1,5 +1,6 @@
 // The prices that join the windows from a changeover on: a region whose energy isn't administered brings its published energy price.
 #![tactic(auto)]
+
 ghost use Rattle.std.specs.Prelude.{◌≡◌, ◌*◌, ◌≤◌, length, take};
 ghost use Rattle.laws.specs.Lists.{tabulate, puts};
 ghost use Rattle.joining.specs.Working.{joined_from};

@@ -1,16 +1,16 @@
 -- When a book with its ring agrees with a ledger, and that an accepted entry and a setting keep them agreeing. Assumes nothing.
-use mathlib.Core.Path.{◌≡◌, refl, sym, ap, ap₂, ◌∙◌, subst}
-use mathlib.Core.Bool.{Bool, true, false, not, ◌&&◌}
-use mathlib.Core.List.{List, [], ◌∷◌, ◌++◌}
-use Prim.Native.Nat.{ℕ, zero, suc, ◌+◌, ◌*◌, ◌/◌, ◌%◌, ◌≤◌, ◌<◌}
+use mathlib.Core.Path.{◌≡◌, refl, sym, ap, ◌∙◌}
+use mathlib.Core.Bool.{Bool, true, false, ◌&&◌}
+use mathlib.Core.List.{List, [], ◌∷◌}
+use Prim.Native.Nat.{ℕ, ◌+◌, ◌/◌, ◌%◌, ◌≤◌, ◌<◌}
 use native.Mathlib.Omega.{arith}
 use borrow.Author.Tests.{ltb-true, leb-true}
-use lib.Dec.{eqb, leb, ltb}
+use lib.Dec.{leb, ltb}
 use lib.IntN.{ℤ, pos}
 use lib.Signed.{lt_z}
 use lib.ListN.{length, get_or}
 use Rattle.laws.specs.Base.{pick}
-use Rattle.laws.specs.Lists.{tabulate, total}
+use Rattle.laws.specs.Lists.{total}
 use Rattle.laws.proofs.Tests.{and_left, and_right, by-test}
 use Rattle.laws.proofs.Lists.{tabulate-same, get_d_tabulate}
 use Rattle.book.specs.declared.record.Book.{Book}
@@ -19,21 +19,18 @@ use Rattle.book.specs.Validity.{used_place, valid}
 use Rattle.book_calls.specs.Setting.{with_settings}
 use Rattle.book.proofs.Validities.{valid-is}
 use Rattle.head.specs.Counted.{in_order}
-use Rattle.publishing.specs.declared.Terms.{Terms}
 use Rattle.publishing.specs.Entry.{Entry}
-use Rattle.entries.specs.Checking.{Shape}
-use Rattle.counting.specs.Windows.{unmarked, joining, sums_after, ring_after}
-use Rattle.counting.specs.Periods.{last_of_day, position_after, mark_after, marks_after}
+use Rattle.counting.specs.Windows.{sums_after, ring_after}
+use Rattle.counting.specs.Periods.{last_of_day, mark_after, marks_after}
 use Rattle.entries.specs.Entering as Entering
 use Rattle.entries.specs.Entering.{terms_of, book_after}
 use Rattle.ledger.specs.Ledger as Ledger
 use Rattle.ledger.specs.Ledger.{Item, interval, threshold-set, limits-set, Ledger, entries_of, taken, day, position_at, threshold_by, cap_by, floor_by, threshold_at, cap_at, floor_at, is_unmarked, entry_price, last_prices, administered_at, marks_at, terms_at, kept}
 use Rattle.ledger.specs.Book.{Held}
-use Rattle.ledger.proofs.Pushes.{pushed}
 use Rattle.ledger.proofs.Histories.{set_next, taken-entry, prices-entry, position-entry, administered-entry, taken-setting, prices-setting, position-setting, marks-setting}
 use Rattle.ledger.proofs.Sounds.{market_at, Sized, Sound}
 use Rattle.ledger.proofs.Steps.{order-after, sum-after, sized-after}
-use Rattle.ledger.proofs.Ranges.{Prices, prices-is}
+use Rattle.ledger.proofs.Ranges.{prices-is}
 use Rattle.ledger.proofs.Keeping.{Kept, Priced, kept-sound, book-kept, setting_kept}
 
 -- a book with its ring that agrees with a ledger

@@ -27,7 +27,7 @@ use Rattle.image.specs.Loading as Loading
 use Rattle.image.specs.Loading.{loaded, book_from, ring_from}
 use Rattle.image.proofs.Typed.{Typed}
 use Rattle.image.proofs.RoundTrips.{loaded-is, loaded-valid, loaded-ring, loaded-prices, loaded-typed}
-use Rattle.ledger.specs.Ledger.{Ledger, entries_of, before, last_set, unmarked_prices, administered_at, marks_at, last_prices, begin}
+use Rattle.ledger.specs.Ledger.{entries_of, before, last_set, unmarked_prices, administered_at, marks_at, last_prices, begin}
 use Rattle.ledger.specs.Demand.{Start, opens, loads, held, settings, settings_in, Blank, Begins}
 use Rattle.ledger.proofs.Sounds.{market_at, Sized}
 use Rattle.ledger.proofs.Keeping.{Kept, fresh_kept}

@@ -1,6 +1,6 @@
 -- What an accepted entry has passed, and the two ways out of the whole call. Assumes nothing.
 use mathlib.Core.Path.{◌≡◌, refl, sym, ap, ◌∙◌}
-use mathlib.Core.Bool.{Bool, true, false, not}
+use mathlib.Core.Bool.{true, false, not}
 use mathlib.Core.List.{List}
 use Prim.Native.Nat.{ℕ, ◌+◌, ◌*◌, ◌<◌}
 use native.Mathlib.Omega.{arith}
@@ -8,11 +8,10 @@ use borrow.Author.Tests.{ltb-false, leb-false, eqb-true, not-false}
 use lib.Dec.{leb, ltb, eqb}
 use lib.IntN.{ℤ, pos}
 use lib.ListN.{length, get_or}
-use Rattle.laws.specs.Base.{pick}
 use Rattle.laws.proofs.Lists.{first_below-passed, flat-div, flat-mod, flat-lt}
 use Rattle.laws.proofs.Tests.{and_left, by-test, never}
 use Rattle.book.proofs.Passes.{passes}
-use Rattle.pricing.specs.Verdict.{Verdict, accepted, refused, refused_at}
+use Rattle.pricing.specs.Verdict.{accepted, refused, refused_at}
 use Rattle.pricing.specs.Holding.{is_energy, in_range}
 use Rattle.book.specs.declared.record.Book.{Book}
 use Rattle.book.specs.Record.{markets_of, table_size, ring_size, is_accepted}

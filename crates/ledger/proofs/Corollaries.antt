@@ -30,7 +30,7 @@ use Rattle.image.specs.Storing as Storing
 use Rattle.image.specs.Storing.{store_verdict, stored}
 use Rattle.image.specs.Loading as Loading
 use Rattle.image.specs.Loading.{loaded}
-use Rattle.ledger.specs.Calls.{Call, entry, threshold, limits, report, restart, Answer, entered, set, reported, answers, verdict_in, Never, refused_answer, Zeros, without_restarts, drop_restarts}
+use Rattle.ledger.specs.Calls.{Call, entry, threshold, limits, report, restart, Answer, set, reported, answers, verdict_in, Never, refused_answer, Zeros, without_restarts, drop_restarts}
 use Rattle.ledger.specs.Calls.{restarted, Step, after}
 use Rattle.ledger.specs.Ledger as Ledger
 use Rattle.ledger.specs.Ledger.{Ledger, interval, taken, unmarked_prices, entries_of, counts_to, image_length, allowed, report_of, restart_verdict}

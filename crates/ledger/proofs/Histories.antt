@@ -1,27 +1,26 @@
 -- P's history with one item more: what stays as it was, and what is new. Assumes nothing.
-use mathlib.Core.Path.{◌≡◌, refl, sym, ap, ap₂, ◌∙◌, subst}
+use mathlib.Core.Path.{◌≡◌, refl, sym, ap, ap₂, ◌∙◌}
 use mathlib.Core.Bool.{Bool, true, false, not, ◌&&◌}
 use mathlib.Core.List.{List, [], ◌∷◌, ◌++◌, append-nil}
-use Prim.Native.Nat.{ℕ, zero, suc, ◌+◌, ◌*◌, ◌-◌, ◌/◌, ◌%◌, ◌≤◌, ◌<◌}
+use Prim.Native.Nat.{ℕ, zero, suc, ◌+◌, ◌-◌, ◌/◌, ◌%◌, ◌≤◌, ◌<◌}
 use native.Mathlib.Nat.{mod-add-mod, mod_self, mod-lt, mod-eq_of_lt, le_refl, not-suc-le-zero, le_of_suc-le-suc}
 use native.Mathlib.Omega.{arith}
 use native.Mathlib.Numerals.{add-one}
 use lib.Dec.{leb, eqb, ltb}
-use lib.IntN.{ℤ, pos}
+use lib.IntN.{ℤ}
 use lib.Signed.{lt_z}
-use lib.ListN.{length, get_or, take, drop, length-append, length-drop}
+use lib.ListN.{length, take, drop, length-append, length-drop}
 use lib.Seq.{take-append-le, take_all}
 use borrow.Author.Tests.{ltb-true, ltb-false, eqb-true, eqb-false}
 use Rattle.laws.specs.Base.{pick}
-use Rattle.laws.specs.Lists.{tabulate, total, last_n, any_below, all_below}
+use Rattle.laws.specs.Lists.{total, last_n}
 use Rattle.laws.proofs.Tests.{by-test}
-use Rattle.laws.proofs.Lists.{last_n-length, last_n-grows, last_n-slides, tabulate-same, all_same, any_same}
-use Rattle.book.specs.declared.record.Settings.{Settings}
+use Rattle.laws.proofs.Lists.{last_n-grows, last_n-slides, tabulate-same, all_same, any_same}
 use Rattle.book.specs.Record.{markets_of}
 use Rattle.book.specs.Validity.{used_place}
 use Rattle.publishing.specs.Entry.{Entry}
-use Rattle.counting.specs.Periods.{last_of_day, position_after, mark_after}
-use Rattle.ledger.specs.Ledger.{Item, interval, threshold-set, limits-set, Ledger, entries_of, taken, day, position_at, before, threshold_by, cap_by, floor_by, last_set, threshold_at, cap_at, floor_at, is_unmarked, entry_price, unmarked_prices, last_prices, sum_after, triggers, releases, administered_at, Administered, marks_at, kept}
+use Rattle.counting.specs.Periods.{position_after}
+use Rattle.ledger.specs.Ledger.{Item, interval, threshold-set, limits-set, Ledger, entries_of, taken, day, position_at, before, threshold_by, last_set, threshold_at, is_unmarked, entry_price, unmarked_prices, last_prices, triggers, releases, administered_at, Administered, marks_at, kept}
 use Rattle.ledger.proofs.Pushes.{pushed}
 use Rattle.ledger.proofs.Periods.{adm-next, adm-out, adm-in}
 

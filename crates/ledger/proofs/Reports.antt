@@ -1,12 +1,12 @@
 -- A report of a book that agrees with a ledger is the ledger's. Assumes nothing.
-use mathlib.Core.Path.{◌≡◌, refl, sym, ap, ap₂, ◌∙◌}
-use mathlib.Core.Bool.{Bool, true, false, not, ◌&&◌}
+use mathlib.Core.Path.{◌≡◌, sym, ap, ap₂, ◌∙◌}
+use mathlib.Core.Bool.{true, ◌&&◌}
 use mathlib.Core.List.{List}
-use Prim.Native.Nat.{ℕ, ◌+◌, ◌*◌, ◌/◌, ◌%◌, ◌≤◌, ◌<◌}
+use Prim.Native.Nat.{ℕ, ◌<◌}
 use native.Mathlib.Omega.{arith}
 use borrow.Author.Tests.{ltb-true, leb-true}
 use lib.Dec.{leb, ltb}
-use lib.IntN.{ℤ, pos}
+use lib.IntN.{pos}
 use lib.ListN.{length, get_or}
 use Rattle.laws.specs.Base.{pick}
 use Rattle.laws.specs.Lists.{total}
@@ -14,13 +14,11 @@ use Rattle.laws.proofs.Tests.{and_left, and_right, by-test}
 use Rattle.laws.proofs.Lists.{get_d_tabulate}
 use Rattle.pricing.specs.Verdict.{accepted}
 use Rattle.book.specs.Record.{markets_of, place_of, is_accepted}
-use Rattle.book.specs.Validity.{used_place, valid}
 use Rattle.book_calls.specs.Report as Report
 use Rattle.book_calls.specs.Report.{Numbers, report_verdict, nothing}
 use Rattle.ledger.specs.Ledger as Ledger
 use Rattle.ledger.specs.Ledger.{Ledger, taken, last_prices, administered_at}
 use Rattle.ledger.specs.Book.{Held}
-use Rattle.ledger.proofs.Histories.{administered-is, is-administered}
 use Rattle.ledger.proofs.Sounds.{Sound}
 use Rattle.ledger.proofs.Steps.{order-length, place-below, place-used, place-region, place-market}
 use Rattle.ledger.proofs.Ranges.{prices-is}

@@ -3,40 +3,37 @@ use mathlib.Core.Path.{◌≡◌, refl, sym, ap, ap₂, ◌∙◌, subst}
 use mathlib.Core.Bool.{Bool, true, false, not, ◌||◌}
 use mathlib.Core.List.{List}
 use mathlib.Core.Logic.{⊎_elim}
-use Prim.Native.Nat.{ℕ, zero, suc, ◌+◌, ◌*◌, ◌-◌, ◌≤◌, ◌<◌}
+use Prim.Native.Nat.{ℕ, zero, suc, ◌+◌, ◌≤◌, ◌<◌}
 use native.Mathlib.Omega.{arith}
-use borrow.Author.Tests.{ltb-true, ltb-false, eq-eqb, eqb-true}
+use borrow.Author.Tests.{ltb-false, eq-eqb, eqb-true}
 use lib.Dec.{eqb, ltb}
-use lib.IntN.{ℤ, pos}
+use lib.IntN.{ℤ}
 use lib.ListN.{length, get_or, take}
 use Rattle.laws.specs.Base.{pick}
 use Rattle.laws.specs.Lists.{total, sum_from}
 use Rattle.laws.proofs.Tests.{by-test, lt-or-ge}
 use Rattle.laws.proofs.Lists.{flat-lt, length_run}
-use Rattle.pricing.specs.Verdict.{Verdict, accepted, refused}
+use Rattle.pricing.specs.Verdict.{accepted, refused}
 use Rattle.book.specs.declared.record.Book.{Book}
-use Rattle.book.specs.Record.{closed, markets_of, place_of, ring_size, is_accepted, is_linked}
-use Rattle.book.specs.Validity.{valid}
+use Rattle.book.specs.Record.{closed, markets_of, ring_size, is_accepted, is_linked}
 use Rattle.book.proofs.Validities.{Valid, valid-is}
-use Rattle.head.specs.Counted.{in_order, how_many}
+use Rattle.head.specs.Counted.{in_order}
 use Rattle.head.specs.Layout.{length_of}
-use Rattle.image.specs.Storing as Storing
-use Rattle.image.specs.Storing.{prices_ok, kind_tells, store_verdict, stored}
+use Rattle.image.specs.Storing.{kind_tells, store_verdict, stored}
 use Rattle.image.specs.Loading as Loading
 use Rattle.image.specs.Loading.{loaded}
 use Rattle.image.proofs.Typed.{Typed}
 use Rattle.image.proofs.Verdicts.{StoreOk, ok_stored}
 use Rattle.image.proofs.RoundTrips.{anew, relaid, image-length, reload, load-other-ring, anew-same, anew-valid, anew-typed, relaid-length}
-use Rattle.ledger.specs.Calls.{restart, Answer, restarted, Step}
+use Rattle.ledger.specs.Calls.{restart, restarted, Step}
 use Rattle.ledger.specs.Ledger as Ledger
 use Rattle.ledger.specs.Ledger.{Ledger, taken, last_prices, counts_to, image_length, restart_verdict, allowed}
 use Rattle.ledger.specs.Book as Book
 use Rattle.ledger.specs.Book.{Held}
 use Rattle.ledger.proofs.Joining.{Every}
-use Rattle.ledger.proofs.Sounds.{market_at, Sized, Sound}
+use Rattle.ledger.proofs.Sounds.{market_at}
 use Rattle.ledger.proofs.Steps.{order-length}
 use Rattle.ledger.proofs.Ranges.{Ranged, Prices, prices-is, is-prices}
-use Rattle.ledger.proofs.Keeping.{Kept, kept-sound}
 use Rattle.ledger.proofs.Agrees.{Agree}
 
 -- ---- sums of counts, from the front and from the back

@@ -6,7 +6,7 @@ use mathlib.Core.Bool.{false}
 use mathlib.Core.List.{List, [], ◌∷◌}
 use Prim.Native.Nat.{ℕ}
 use lib.IntN.{ℤ, pos, negsuc}
-use lib.ListN.{length, get_or, replicate}
+use lib.ListN.{get_or, replicate}
 use Rattle.laws.specs.Base.{min_z, max_z}
 use Rattle.laws.specs.Lists.{run, all_below, any_below, count_below, first_below, total, last_n, joined, sum_from}
 use Rattle.laws.specs.Bytes.{le, number, number_at, encode, decode, words}

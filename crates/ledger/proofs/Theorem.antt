@@ -1,38 +1,34 @@
 -- DEMAND 3: the book answers every list of calls as the ledger machine does (the statement is in specs/Demand). Assumes nothing.
 use mathlib.Core.Path.{◌≡◌, refl, sym, ap, ap₂, ◌∙◌, subst}
-use mathlib.Core.Bool.{Bool, true, false, not, ◌&&◌}
+use mathlib.Core.Bool.{Bool, true, false}
 use mathlib.Core.List.{List, [], ◌∷◌}
-use Prim.Native.Nat.{ℕ, ◌+◌, ◌*◌, ◌≤◌, ◌<◌}
+use Prim.Native.Nat.{ℕ, ◌≤◌, ◌<◌}
 use native.Mathlib.Omega.{arith}
-use borrow.Author.Tests.{eqb-true, eqb-false, eq-eqb, ne_eqb}
-use lib.Dec.{eqb, ltb}
-use lib.IntN.{ℤ, pos}
-use lib.ListN.{length, take, get_or}
+use borrow.Author.Tests.{eqb-true, eqb-false}
+use lib.IntN.{ℤ}
+use lib.ListN.{length, get_or}
 use Rattle.laws.specs.Base.{pick}
 use Rattle.laws.proofs.Tests.{by-test}
-use Rattle.pricing.specs.Verdict.{Verdict, accepted, refused}
+use Rattle.pricing.specs.Verdict.{Verdict, accepted}
 use Rattle.pricing.specs.Holding.{limits_ok}
-use Rattle.book.specs.declared.record.Book.{Book}
 use Rattle.book.specs.declared.record.Settings.{Settings}
 use Rattle.book.specs.Record.{markets_of, place_of, ring_size, is_accepted}
-use Rattle.book.specs.Validity.{valid}
-use Rattle.book_calls.specs.Setting.{threshold_verdict, limits_verdict, with_settings, set_threshold, set_limits}
+use Rattle.book_calls.specs.Setting.{threshold_verdict, limits_verdict, set_threshold, set_limits}
 use Rattle.book.proofs.Validities.{valid-is}
 use Rattle.book_calls.proofs.Kept.{threshold-is, threshold-accepted, setting-valid}
 use Rattle.publishing.specs.declared.Terms.{Terms}
 use Rattle.publishing.specs.Entry.{Entry}
 use Rattle.publishing.specs.Published.{table_of, count_of}
 use Rattle.entries.specs.Checking.{Shape, entry_verdict}
-use Rattle.counting.specs.Windows.{ring_after}
 use Rattle.entries.specs.Entering as Entering
 use Rattle.entries.specs.Entering.{book_after, terms_of, enter_verdict}
-use Rattle.ledger.specs.Calls.{Call, entry, threshold, limits, report, restart, Answer, entered, set, reported, restarted, Step, answers, after}
+use Rattle.ledger.specs.Calls.{Call, entry, threshold, limits, report, restart, entered, reported, Step, answers, after}
 use Rattle.ledger.specs.Ledger as Ledger
 use Rattle.ledger.specs.Ledger.{Ledger, interval, threshold-set, limits-set, entries_of, taken, marks_at, terms_at, kept}
 use Rattle.ledger.specs.Book as Book
 use Rattle.ledger.specs.Book.{Held, is_own}
 use Rattle.ledger.proofs.Histories.{administered-is, is-administered}
-use Rattle.ledger.proofs.Checks.{Passed, passed, entry_outcome, entered-accepted, entered-refused}
+use Rattle.ledger.proofs.Checks.{Passed, passed, entered-accepted, entered-refused}
 use Rattle.ledger.proofs.Agrees.{Agree, shape-agrees, terms-agree, entry-agrees, setting-agrees}
 use Rattle.ledger.proofs.Reports.{mark-agrees, report-agrees}
 use Rattle.ledger.proofs.Restarts.{restart-alike}

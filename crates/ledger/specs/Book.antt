@@ -1,6 +1,6 @@
 -- The book as a machine over lists of calls: each call by the very definition that its function's contract cites, on the book
 -- and ring that the call before left. Assumes nothing.
-use Rattle.std.specs.Prelude.{Bool, true, false, List, ℕ, eqb, ℤ, length, take}
+use Rattle.std.specs.Prelude.{Bool, List, eqb, ℤ, length, take}
 use Rattle.laws.specs.Base.{pick}
 use Rattle.pricing.specs.Verdict.{accepted}
 use Rattle.book.specs.declared.record.Book.{Book}
@@ -9,9 +9,8 @@ use Rattle.book_calls.specs.Setting as Setting
 use Rattle.book_calls.specs.Report as Report
 use Rattle.image.specs.Storing as Storing
 use Rattle.image.specs.Loading as Loading
-use Rattle.publishing.specs.Entry.{Entry}
 use Rattle.entries.specs.Entering as Entering
-use Rattle.ledger.specs.Calls.{Call, entry, threshold, limits, report, restart, Answer, entered, set, reported, restarted, Step}
+use Rattle.ledger.specs.Calls.{Call, entry, threshold, limits, report, restart, entered, set, reported, restarted, Step}
 
 pub record Held : Type 0 where
   pub book : Book

@@ -19,7 +19,7 @@ use Rattle.book.specs.Record.{place_of}
 use Rattle.book_calls.specs.Opening as Opening
 use Rattle.book_calls.specs.Report as Report
 use Rattle.image.specs.Loading as Loading
-use Rattle.ledger.specs.Calls.{Call, Answer, answers, after}
+use Rattle.ledger.specs.Calls.{Call, answers, after}
 use Rattle.ledger.specs.Ledger as Ledger
 use Rattle.ledger.specs.Book as Book
 

@@ -21,10 +21,10 @@ use Rattle.book.specs.Validity.{used_place}
 use Rattle.book_calls.specs.Setting.{threshold_verdict, limits_verdict}
 use Rattle.book_calls.specs.Report.{Numbers, nothing, report_verdict}
 use Rattle.publishing.specs.declared.Terms.{Terms}
-use Rattle.publishing.specs.Entry.{Offer, Entry}
+use Rattle.publishing.specs.Entry.{Entry}
 use Rattle.publishing.specs.Published.{table_of, count_of}
 use Rattle.entries.specs.Checking.{Shape, entry_verdict}
-use Rattle.ledger.specs.Calls.{Call, entry, threshold, limits, report, restart, Answer, entered, set, reported, restarted, Step}
+use Rattle.ledger.specs.Calls.{Call, entry, threshold, limits, report, restart, entered, set, reported, restarted, Step}
 
 -- "in order, the accepted entries and settings", oldest first
 pub data Item : Type 0 where

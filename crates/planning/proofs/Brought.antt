@@ -14,7 +14,6 @@ use lib.Seq.{take_all, drop-drop, drop-append-le}
 use Rattle.laws.specs.Base.{pick}
 use Rattle.laws.specs.Lists.{total, last_n}
 use Rattle.laws.proofs.Tests.{never, by-test, and_left, and_right}
-use Rattle.laws.proofs.Lists.{length_run}
 use Rattle.pricing.specs.Holding.{is_energy, in_range}
 use Rattle.pricing.specs.Verdict.{accepted, refused}
 use Rattle.book.specs.declared.record.Settings.{Settings}

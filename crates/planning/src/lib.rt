@@ -1,5 +1,6 @@
 // Intervals left before a period: how many more at a price make a market's sum exceed the threshold.
 #![tactic(auto)]
+
 ghost use Rattle.std.specs.Prelude.{◌≡◌, ◌+◌, ◌≤◌, ◌<◌, length};
 ghost use Rattle.book.specs.Record.{verdict};
 ghost use Rattle.head.specs.Counted.{window_of};

@@ -1,5 +1,6 @@
 // Reads a list of calls from standard input and writes the answers: this file only moves bytes, `replay` says what they are.
 #![tactic(auto)]
+
 ghost use Rattle.std.specs.Prelude.{◌≡◌, ◌≤◌, length};
 ghost use Rattle.std.proofs.lemmas.List.Edits.{sets};
 ghost use Rattle.replay.specs.Promise.{promised_for};
@@ -7,7 +8,6 @@ ghost use Rattle.player.specs.Player.{too_large, lent};
 
 use book::record::ring_size;
 use codec::{get_u8, get_u16};
-
 use records::reading::opens;
 use replay::replay;
 

@@ -1,5 +1,5 @@
 -- Holding a price within limits, and the ranges of prices and limits. Assumes nothing.
-use Rattle.std.specs.Prelude.{Bool, true, false, ◌&&◌, ℕ, eqb, ℤ, pos, negsuc}
+use Rattle.std.specs.Prelude.{Bool, ◌&&◌, ℕ, eqb, ℤ, pos, negsuc}
 use Rattle.std.specs.Int.Signed.{le_z}
 use Rattle.laws.specs.Base.{pick, min_z, max_z}
 

@@ -1,5 +1,5 @@
 -- The indexed amount of a year, in whole dollars. Assumes nothing.
-use Rattle.std.specs.Prelude.{Bool, true, false, ◌&&◌, ℕ, ◌+◌, ◌*◌, max, leb}
+use Rattle.std.specs.Prelude.{Bool, ◌&&◌, ℕ, ◌+◌, ◌*◌, max, leb}
 use Rattle.laws.specs.Base.{pick}
 use Rattle.pricing.specs.Rounding.{nearest}
 use Rattle.pricing.specs.declared.indexing.Answer.{Answer}

@@ -1,8 +1,8 @@
 -- A replay after an accepted opening: each call is answered as the ledger machine does. Assumes nothing.
 use mathlib.Core.Path.{◌≡◌, refl, sym, ap, ap₂, ◌∙◌, subst}
 use mathlib.Core.Bool.{Bool, true, false, not, ◌&&◌}
-use mathlib.Core.List.{List, [], ◌∷◌, ◌++◌, append-nil}
-use Prim.Native.Nat.{ℕ, ◌+◌, ◌-◌, ◌*◌, ◌≤◌}
+use mathlib.Core.List.{List, ◌++◌, append-nil}
+use Prim.Native.Nat.{ℕ, ◌+◌, ◌-◌, ◌*◌}
 use native.Mathlib.Omega.{arith}
 use borrow.Author.Tests.{eqb-true, eqb-false, eq-eqb, not-false}
 use lib.Dec.{eqb, ltb}
@@ -10,10 +10,9 @@ use lib.IntN.{ℤ, pos}
 use lib.ListN.{length, take, drop, replicate, length-replicate, length-append, length-drop, take-append-drop}
 use lib.Seq.{sets, length-sets, length-take-le, take_all, drop-length}
 use Rattle.laws.specs.Base.{pick}
-use Rattle.laws.specs.Lists.{tabulate}
 use Rattle.laws.proofs.Tests.{by-test, and_right, never}
 use Rattle.laws.proofs.Lists.{length_run}
-use Rattle.pricing.specs.Verdict.{Verdict, accepted, refused}
+use Rattle.pricing.specs.Verdict.{accepted, refused}
 use Rattle.book.specs.declared.record.Book.{Book}
 use Rattle.book.specs.declared.record.Settings.{Settings}
 use Rattle.book.specs.Record.{table_size, ring_size, is_accepted, link_count}
@@ -40,10 +39,10 @@ use Rattle.ledger.specs.Book as Book
 use Rattle.ledger.specs.Book.{Held, is_own}
 use Rattle.ledger.proofs.Agrees.{Agree}
 use Rattle.ledger.proofs.Theorem.{keeps, settings-play}
-use Rattle.records.specs.Reading.{Room, kind_at, lengths_at, entry_at, entry_number, signed_at, factors_at, table_at, call_size, answer_size, goes, fits}
-use Rattle.records.specs.Writing.{plain_record, entry_record, report_record}
+use Rattle.records.specs.Reading.{kind_at, lengths_at, entry_at, entry_number, signed_at, factors_at, table_at, call_size, answer_size, goes, fits}
+use Rattle.records.specs.Writing.{plain_record, report_record}
 use Rattle.records.proofs.Written.{length-head, length-entry, length-report}
-use Rattle.playing.specs.Playing.{State, room_of, threshold_in, cap_in, floor_in, region_in, market_in, threshold, limits, report, entered_at, entered_record, entry, reload, restart_verdict, swapped, reloaded, restart, step}
+use Rattle.playing.specs.Playing.{State, room_of, threshold_in, cap_in, floor_in, region_in, market_in, threshold, limits, report, entered_at, entered_record, entry, reload, restart_verdict, swapped, reloaded, restart}
 use Rattle.playing.specs.Fed.{Lengths, call_at}
 use Rattle.replay.specs.Promise.{record_of}
 use Rattle.playing.proofs.Goes.{goes-fits, fits-table, fits-ring}

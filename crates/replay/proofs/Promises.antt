@@ -1,23 +1,20 @@
 -- THE REPLAY'S PROMISE: the bytes that it writes are those of the ledger machine's answers (specs/Promise says it). Assumes nothing.
 use mathlib.Core.Path.{◌≡◌, refl, sym, ap, ◌∙◌, subst}
-use mathlib.Core.Bool.{Bool, true, false, not, ◌&&◌}
-use mathlib.Core.List.{List, [], ◌∷◌, ◌++◌}
+use mathlib.Core.Bool.{true, false}
+use mathlib.Core.List.{List, [], ◌++◌}
 use Prim.Native.Nat.{ℕ, ◌+◌, ◌-◌, ◌≤◌}
 use native.Mathlib.Omega.{arith}
-use borrow.Author.Tests.{leb-true, eqb-true, eq-eqb}
-use lib.Dec.{eqb, leb}
+use borrow.Author.Tests.{leb-true, eqb-true}
+use lib.Dec.{leb}
 use lib.IntN.{ℤ, pos}
-use lib.ListN.{length, take, drop, replicate, length-replicate, length-append}
+use lib.ListN.{length, take, length-replicate, length-append}
 use lib.Seq.{sets, length-sets, length-take-le}
 use Rattle.laws.specs.Base.{pick}
-use Rattle.laws.specs.Lists.{tabulate}
-use Rattle.laws.proofs.Tests.{by-test, never}
+use Rattle.laws.proofs.Tests.{by-test}
 use Rattle.laws.proofs.Lists.{length_run}
 use Rattle.laws.proofs.Bytes.{sets-append}
-use Rattle.pricing.specs.Verdict.{Verdict, accepted, refused}
-use Rattle.book.specs.declared.record.Settings.{Settings}
-use Rattle.book.specs.Record.{ring_size, is_accepted}
-use Rattle.book_calls.specs.Opening as Opening
+use Rattle.pricing.specs.Verdict.{Verdict}
+use Rattle.book.specs.Record.{is_accepted}
 use Rattle.book_calls.specs.Opening.{open_verdict}
 use Rattle.book_calls.proofs.Kept.{opened-verdict, opened-is, opened-not}
 use Rattle.ledger.specs.Calls.{Call, Answer, Step, answers}
@@ -31,7 +28,6 @@ use Rattle.records.proofs.Written.{length-head}
 use Rattle.playing.specs.Playing.{State}
 use Rattle.replay.specs.Replay as Replay
 use Rattle.replay.specs.Replay.{Lent, runs, part_of, size_in, mine, spare, parts, opened, opened_on, begun, replayed}
-use Rattle.playing.specs.Fed.{Lengths}
 use Rattle.replay.specs.Promise.{sizes_of, lengths_of, calls_from, calls_in, records_of, refusals, ledger_answers, opening_verdict, promised_for, promised}
 use Rattle.replay.proofs.Simulating.{simulated}
 use Rattle.replay.proofs.Ledgers.{held_of, Fits, fits-room, Good, ledger-steps}

@@ -1,7 +1,7 @@
 -- A replay after a refused opening: the book is closed, and each call is refused by 10. Assumes nothing.
 use mathlib.Core.Path.{◌≡◌, refl, sym, ap, ◌∙◌, subst}
-use mathlib.Core.Bool.{Bool, true, false}
-use mathlib.Core.List.{List, [], ◌∷◌, ◌++◌}
+use mathlib.Core.Bool.{true, false}
+use mathlib.Core.List.{List, [], ◌∷◌}
 use Prim.Native.Nat.{ℕ, ◌+◌, ◌-◌, ◌*◌}
 use native.Mathlib.Omega.{arith}
 use borrow.Author.Tests.{eq-eqb}
@@ -9,11 +9,10 @@ use lib.Dec.{eqb}
 use lib.IntN.{ℤ, pos}
 use lib.ListN.{length, take, drop, replicate, length-append, length-drop, take-append-drop}
 use lib.Seq.{sets, length-sets}
-use Rattle.laws.specs.Base.{pick}
 use Rattle.laws.proofs.Lists.{length_run}
-use Rattle.pricing.specs.Verdict.{Verdict, refused}
+use Rattle.pricing.specs.Verdict.{refused}
 use Rattle.book.specs.declared.record.Book.{Book}
-use Rattle.book.specs.Record.{closed, is_accepted}
+use Rattle.book.specs.Record.{closed}
 use Rattle.book.specs.Validity.{valid}
 use Rattle.book_calls.specs.Setting as Setting
 use Rattle.book_calls.specs.Report as Report
@@ -23,11 +22,10 @@ use Rattle.entries.specs.Entering as Entering
 use Rattle.image.specs.Storing as Storing
 use Rattle.ledger.specs.Calls as Calls
 use Rattle.ledger.specs.Calls.{Call, Step, answers, refused_answer}
-use Rattle.ledger.proofs.Checks.{entered-refused}
-use Rattle.records.specs.Reading.{kind_at, lengths_at, entry_at, entry_number, signed_at, factors_at, table_at, call_size, answer_size, goes, fits}
-use Rattle.records.specs.Writing.{plain_record, entry_record, report_record}
+use Rattle.records.specs.Reading.{kind_at, lengths_at, entry_at, entry_number, signed_at, factors_at, table_at, call_size, answer_size, goes}
+use Rattle.records.specs.Writing.{plain_record, report_record}
 use Rattle.records.proofs.Written.{length-head, length-entry, length-report}
-use Rattle.playing.specs.Playing.{State, threshold_in, cap_in, floor_in, region_in, market_in, threshold, limits, report, entered_at, entered_record, enters, entry, restarts, restart}
+use Rattle.playing.specs.Playing.{State, threshold_in, cap_in, floor_in, region_in, market_in, threshold, limits, report, enters, entry, restarts, restart}
 use Rattle.playing.specs.Fed.{Lengths, call_at}
 use Rattle.replay.specs.Promise.{record_of, refusals}
 use Rattle.playing.proofs.Goes.{goes-fits, fits-table}

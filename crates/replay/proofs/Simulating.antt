@@ -1,15 +1,14 @@
 -- A machine that answers each call as a replay writes it answers the whole replay. Assumes nothing.
 use mathlib.Core.Path.{◌≡◌, refl, sym, ap, ◌∙◌, subst}
-use mathlib.Core.Bool.{Bool, true, false}
-use mathlib.Core.List.{List, [], ◌∷◌, ◌++◌}
-use Prim.Native.Nat.{ℕ, zero, suc, ◌+◌, ◌-◌, ◌≤◌}
+use mathlib.Core.Bool.{true, false}
+use mathlib.Core.List.{List, [], ◌++◌}
+use Prim.Native.Nat.{ℕ, zero, suc, ◌+◌, ◌-◌}
 use native.Mathlib.Omega.{arith}
 use lib.ListN.{length, length-append}
 use lib.Seq.{sets, length-sets}
-use Rattle.laws.specs.Base.{pick}
 use Rattle.laws.proofs.Tests.{by-test}
 use Rattle.laws.proofs.Bytes.{sets-append}
-use Rattle.ledger.specs.Calls.{Call, Answer, Step, answers}
+use Rattle.ledger.specs.Calls.{Call, Step, answers}
 use Rattle.records.specs.Reading.{Room, call_size, answer_size, goes}
 use Rattle.playing.specs.Playing.{State, room_of, playable, step}
 use Rattle.replay.specs.Replay.{runs}

@@ -3,7 +3,7 @@
 -- In words: where the bytes begin with an opening, the replay writes the opening's answer and then, one after the other, the
 -- answers of the ledger machine P to the calls that stand in the bytes, each as a record. After a refused opening there is no
 -- ledger and the book is closed: every call is refused by 10.
-use Rattle.std.specs.Prelude.{Bool, true, false, List, [], ◌∷◌, ◌++◌, ℕ, zero, suc, ◌+◌, ◌-◌, length}
+use Rattle.std.specs.Prelude.{List, [], ◌∷◌, ◌++◌, ℕ, zero, suc, ◌+◌, ◌-◌, length}
 use Rattle.laws.specs.Base.{pick}
 use Rattle.pricing.specs.Verdict.{Verdict, refused}
 use Rattle.book.specs.Record.{is_accepted}

@@ -1,9 +1,8 @@
 -- A replay: the opening, then every call that stands in the bytes. Assumes nothing.
-use Rattle.std.specs.Prelude.{Bool, true, false, not, ◌&&◌, ◌||◌, List, ◌++◌, ℕ, zero, suc, ◌+◌, ◌-◌, leb, ℤ, length, take, drop}
+use Rattle.std.specs.Prelude.{Bool, false, not, ◌&&◌, ◌||◌, List, ◌++◌, ℕ, zero, suc, leb, ℤ, length, take, drop}
 use Rattle.std.proofs.lemmas.List.Edits.{sets}
 use Rattle.laws.specs.Base.{pick}
 use Rattle.laws.specs.Bytes.{number_at}
-use Rattle.book.specs.declared.record.Settings.{Settings}
 use Rattle.book.specs.Record.{ring_size}
 use Rattle.book_calls.specs.Opening as Opening
 use Rattle.records.specs.Reading.{opening_size, settings_in, opens}

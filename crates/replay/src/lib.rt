@@ -1,5 +1,6 @@
 // A list of calls played from bytes on the book's own operations, each answer written as bytes. docs/RECORDS.md has the layout.
 #![tactic(auto)]
+
 ghost use Rattle.std.specs.Prelude.{◌≡◌, true, false, not, ◌&&◌, ◌||◌, [], ◌+◌, ◌-◌, ◌≤◌, length};
 ghost use Rattle.laws.specs.Base.{pick};
 ghost use Rattle.std.proofs.lemmas.List.Edits.{sets};

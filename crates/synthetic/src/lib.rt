@@ -1,5 +1,6 @@
 // A test load that anyone can remake: an interval's prices, marks, flows and factors, drawn from a seed.
 #![tactic(auto)]
+
 ghost use Rattle.std.specs.Prelude.{◌≡◌, ◌+◌, ◌*◌, ◌%◌, ◌<◌, length, replicate};
 ghost use Rattle.laws.specs.Lists.{tabulate};
 ghost use Rattle.interval_records.specs.Layout.{interval_of};

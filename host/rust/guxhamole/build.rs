@@ -16,7 +16,7 @@ fn main() {
     let archive = directory.join("libcapi.a");
     println!("cargo:rerun-if-changed={}", archive.display());
     if !archive.exists() {
-        eprintln!("there is no {}: run `rt staticlib capi`", archive.display());
+        eprintln!("there is no {}: run `tools/build`", archive.display());
         process::exit(1);
     }
     println!("cargo:rustc-link-search=native={}", directory.display());

@@ -1,5 +1,5 @@
 -- `codec::get_numbers` meets its contract. The loop's invariant: what is still to go is the same at every turn. Assumes nothing.
-use Prim.Native.Nat.{ℕ, ◌-◌, ◌+◌, ◌*◌}
+use Prim.Native.Nat.{ℕ, ◌+◌, ◌*◌}
 use native.Mathlib.Omega.{arith}
 use lib.ListN.{length-set}
 use Rattle.laws.specs.Bytes.{number_at}

@@ -33,10 +33,13 @@ returns c =
     let v : Valid c.args.book = valid-is c.args.book c.requires.0.valid in
     let a = c.args in
     let t = c.take-sums in
-    let f : SFits w64 a.book.threshold = search rules in record { value = after_is a.book (v) a.ring.now a.prices.now a.marked.now _ _ _ _ _ _
+    let f : SFits w64 a.book.threshold = search rules in record {
+      value = after_is a.book (v) a.ring.now a.prices.now a.marked.now _ _ _ _ _ _
           c.last_of_day-last.ensures
           c.position_after.ensures
           c.counts_after-counts_then.ensures
           c.nexts_after-nexts_then.ensures
           c.take-sums.ensures.value
-          (rw (to_z-of_z f) at c.marks_after-marks_then.ensures); ring_after = c.take-sums.ensures.ring_after }
+          (rw (to_z-of_z f) at c.marks_after-marks_then.ensures);
+      ring_after = c.take-sums.ensures.ring_after;
+    }

@@ -1,6 +1,5 @@
 -- `publishing::any_source` meets its contract. Assumes nothing.
 use mathlib.Core.Path.{refl}
-use Prim.Native.Nat.{◌-◌}
 use native.Mathlib.Omega.{arith}
 use Rattle.laws.proofs.Lists.{any_below-none, any_below-step}
 use Rattle.publishing.proofs.any_source.Goals as goal

@@ -1,10 +1,9 @@
 -- `publishing::bounds` meets its contract. Assumes nothing.
 use borrow.Author.Rules.{rules}
-use borrow.Author.Tests.{not-true}
 use mathlib.Core.Path.{◌≡◌, refl, sym, ap, ◌∙◌}
 use mathlib.Core.Bool.{true, false}
 use mathlib.Core.List.{List, ◌++◌}
-use Prim.Native.Nat.{ℕ, ◌<◌, ◌-◌}
+use Prim.Native.Nat.{ℕ, ◌<◌}
 use native.Mathlib.Omega.{arith}
 use lib.IntN.{ℤ}
 use lib.ListN.{get_or, drop, replicate, length-set}
@@ -31,7 +30,7 @@ returns-then-not-any_source c =
     let a = c.args in
     opened
     ∙ all-open a.caps a.terms c.requires.0 a.flows.now a.factors.now c.requires.1 a.sources
-    (sym c.any_source.ensures ∙ not-true c.any_source.result c.if-not-any_source.true-raw)
+    (sym c.any_source.ensures ∙ c.if-not-any_source.true)
 
 pub loop-r-init : goal.loop-r-init
 loop-r-init c = (omega arith, refl, tab-none _ _)

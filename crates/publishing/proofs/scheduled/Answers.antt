@@ -1,14 +1,13 @@
 -- `publishing::scheduled` meets its contract: the place is in the schedule, and what stands there is held. Assumes nothing.
-use borrow.Author.Rules.{rules, sfits_of}
-use Prim.Native.Nat.{◌<◌, ◌^◌}
+use borrow.Author.Rules.{rules}
+use Prim.Native.Nat.{◌<◌}
 use mathlib.Core.Path.{◌≡◌}
 use mathlib.Core.Bool.{true, false}
 use native.Mathlib.Omega.{arith}
-use lib.IntN.{ℤ, pos}
-use lib.Signed.{mag}
+use lib.IntN.{pos}
 use lib.ListN.{length, get_or}
 use mir.Syntax.{w32}
-use mir.Val.{SFits, to_z, of_z, hbits}
+use mir.Val.{SFits}
 use mir.Facts.{to_z-of_z}
 use Rattle.pricing.specs.Holding.{held}
 use Rattle.publishing.specs.Entry.{schedule_place}

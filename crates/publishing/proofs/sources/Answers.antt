@@ -1,11 +1,9 @@
 -- `publishing::sources` meets its contract. Assumes nothing.
 use mathlib.Core.Path.{◌≡◌, refl, ◌∙◌}
 use mathlib.Core.Bool.{false}
-use Prim.Native.Nat.{◌-◌}
 use native.Mathlib.Omega.{arith}
 use lib.ListN.{length-set}
 use Rattle.laws.proofs.Lists.{tab-none, tab-step, tab-below}
-use Rattle.publishing.specs.Bounds.{has_limit}
 use Rattle.publishing.proofs.sources.Goals as goal
 
 pub loop-r-init : goal.loop-r-init

@@ -1,6 +1,5 @@
 -- `replay::play_calls` meets its contract. The loop's invariant: so many calls from here come to all calls from the start. Assumes nothing.
 use mathlib.Core.Path.{◌≡◌, refl, ◌∙◌}
-use mathlib.Core.Bool.{false}
 use mathlib.Core.List.{List, []}
 use Prim.Native.Nat.{ℕ, ◌+◌, ◌-◌, ◌≤◌, ◌<◌}
 use native.Mathlib.Omega.{arith}
@@ -36,7 +35,7 @@ overflow_add-at c =
     let bytes : List ℕ = c.args.calls.now in
     let state : State = (let l = c.loop-book in state_of l.turned l.book l.ring l.other l.image l.numbers l.factors l.table l.at l.out l.answers) in
     let test : playable bytes state ≡ c.goes.result =
-      (let l = c.loop-book in plays bytes state c.picked.result c.goes.result (room_by l.turned l.other l.ring c.picked.result c.picked.ensures) c.goes.ensures) in
+    (let l = c.loop-book in plays bytes state c.picked.result c.goes.result (room_by l.turned l.other l.ring c.picked.result c.picked.ensures) c.goes.ensures) in
     let f : Fit bytes c.loop-book.at c.loop-book.out (length c.loop-book.answers) = fits_in c.loop-book.invariant.0 (test ∙ c.loop-book-test.true) in
     within _ _ _ _ c.call_size-size.ensures f.inside (omega arith)
 
@@ -45,7 +44,7 @@ overflow_add-out c =
     let bytes : List ℕ = c.args.calls.now in
     let state : State = (let l = c.loop-book in state_of l.turned l.book l.ring l.other l.image l.numbers l.factors l.table l.at l.out l.answers) in
     let test : playable bytes state ≡ c.goes.result =
-      (let l = c.loop-book in plays bytes state c.picked.result c.goes.result (room_by l.turned l.other l.ring c.picked.result c.picked.ensures) c.goes.ensures) in
+    (let l = c.loop-book in plays bytes state c.picked.result c.goes.result (room_by l.turned l.other l.ring c.picked.result c.picked.ensures) c.goes.ensures) in
     let f : Fit bytes c.loop-book.at c.loop-book.out (length c.loop-book.answers) = fits_in c.loop-book.invariant.0 (test ∙ c.loop-book-test.true) in
     within _ _ _ _ c.answer_size-answer.ensures f.room (omega arith)
 
@@ -54,7 +53,7 @@ loop-book-smaller c =
     let bytes : List ℕ = c.args.calls.now in
     let state : State = (let l = c.loop-book in state_of l.turned l.book l.ring l.other l.image l.numbers l.factors l.table l.at l.out l.answers) in
     let test : playable bytes state ≡ c.goes.result =
-      (let l = c.loop-book in plays bytes state c.picked.result c.goes.result (room_by l.turned l.other l.ring c.picked.result c.picked.ensures) c.goes.ensures) in
+    (let l = c.loop-book in plays bytes state c.picked.result c.goes.result (room_by l.turned l.other l.ring c.picked.result c.picked.ensures) c.goes.ensures) in
     let f : Fit bytes c.loop-book.at c.loop-book.out (length c.loop-book.answers) = fits_in c.loop-book.invariant.0 (test ∙ c.loop-book-test.true) in
     shrinks _ _ _ _ c.call_size-size.ensures f.some f.inside
 
@@ -63,7 +62,7 @@ loop-book-preserved c =
     let bytes : List ℕ = c.args.calls.now in
     let state : State = (let l = c.loop-book in state_of l.turned l.book l.ring l.other l.image l.numbers l.factors l.table l.at l.out l.answers) in
     let test : playable bytes state ≡ c.goes.result =
-      (let l = c.loop-book in plays bytes state c.picked.result c.goes.result (room_by l.turned l.other l.ring c.picked.result c.picked.ensures) c.goes.ensures) in
+    (let l = c.loop-book in plays bytes state c.picked.result c.goes.result (room_by l.turned l.other l.ring c.picked.result c.picked.ensures) c.goes.ensures) in
     let h = c.loop-book.invariant in
     let r = c.play_turned-played in
     let k = r.auto in (

@@ -1,6 +1,5 @@
 -- `synthetic::unmark` meets its contract. The loop's invariant: zeros up to `r`, then the marks as they were. Assumes nothing.
 use mathlib.Core.Path.{refl, ◌∙◌}
-use Prim.Native.Nat.{◌-◌}
 use native.Mathlib.Omega.{arith}
 use lib.ListN.{length, length-set}
 use Rattle.laws.proofs.Lists.{tab-none, tab-step, tab-done, tabulate-const}

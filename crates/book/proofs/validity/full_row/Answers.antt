@@ -1,5 +1,5 @@
 -- `book::validity::full_row` meets its contract. The loop's invariant: `ok` is the test of the markets passed. Assumes nothing.
-use Prim.Native.Nat.{◌+◌, ◌-◌}
+use Prim.Native.Nat.{◌+◌}
 use native.Mathlib.Omega.{arith}
 use borrow.Author.Rules.{rules}
 use mir.Syntax.{w64}

@@ -4,7 +4,6 @@ use mathlib.Core.Bool.{Bool, true, false, ◌&&◌}
 use mathlib.Core.List.{List}
 use Prim.Native.Nat.{ℕ, ◌+◌, ◌*◌, ◌/◌, ◌%◌, ◌≤◌, ◌-◌}
 use native.Mathlib.Omega.{arith}
-use borrow.Author.Tests.{not-true, not-false}
 use lib.Dec.{leb, ltb}
 use lib.IntN.{ℤ, pos}
 use lib.ListN.{get_or}
@@ -43,7 +42,7 @@ returns-then-not-row_ok c =
     let l = c.loop-r in
     let w = c.row_ok in
     failed (11 * (c.loop-r.r + 1)) 88 (tested a.regions a.services a.sums.now a.marks.now) (omega arith)
-    (sym (not-true c.row_ok.result c.if-not-row_ok.true-raw)
+    (sym (c.if-not-row_ok.true)
     ∙ row_step a.regions a.services a.sums.now a.marks.now c.loop-r.r c.row_ok.result c.loop-r.invariant.1 c.row_ok.ensures)
 
 pub loop-r-preserved : goal.loop-r-preserved
@@ -52,6 +51,6 @@ loop-r-preserved c =
     let l = c.loop-r in
     let w = c.row_ok in (
       omega arith,
-      sym (not-false c.row_ok.result c.if-not-row_ok.false-raw)
+      sym (c.if-not-row_ok.false)
           ∙ row_step a.regions a.services a.sums.now a.marks.now c.loop-r.r c.row_ok.result c.loop-r.invariant.1 c.row_ok.ensures,
     )

@@ -1,5 +1,4 @@
 -- `book::validity::regions_ok` meets its contract. The loop's invariant: `ok` is the test of the regions passed. Assumes nothing.
-use Prim.Native.Nat.{◌-◌}
 use native.Mathlib.Omega.{arith}
 use Rattle.laws.proofs.Lists.{all_below-none, all_below-step}
 use Rattle.book.proofs.validity.regions_ok.Goals as goal

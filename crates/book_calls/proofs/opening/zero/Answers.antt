@@ -1,6 +1,5 @@
 -- `book_calls::opening::zero` meets its contract. The loop's invariant: zeros up to `i`, then the ring as it was. Assumes nothing.
 use mathlib.Core.Path.{refl, ◌∙◌}
-use Prim.Native.Nat.{◌-◌}
 use native.Mathlib.Omega.{arith}
 use lib.IntN.{pos}
 use lib.ListN.{length, length-set}

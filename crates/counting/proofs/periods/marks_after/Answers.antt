@@ -1,7 +1,5 @@
 -- `counting::periods::marks_after` meets its contract. Assumes nothing.
 use mathlib.Core.Path.{◌≡◌, ◌∙◌}
-use mathlib.Core.Logic.{⊎_elim}
-use Prim.Native.Nat.{◌-◌}
 use native.Mathlib.Omega.{arith}
 use borrow.Author.Rules.{rules}
 use mir.Syntax.{w64}
@@ -25,14 +23,14 @@ loop-k-preserved c =
     let f : SFits w64 (get_or a.sums.now c.loop-k.k (pos 0)) = search rules in
     let t = to_z w64 (of_z w64 a.threshold) in
     let p : Turned t a.last a.sums.now a.marks c.loop-k.k c.if-threshold-sums.after =
-      elim c.if-threshold-sums.branch [
-        then-threshold-sums w ↦ raised t a.last a.sums.now a.marks l.k l.after c.if-threshold-sums.after
-            l.invariant.2 l.invariant.3 (omega arith) (rw (to_z-of_z f) at w.if-threshold-sums.true) w.after-is
+    elim c.if-threshold-sums.branch [
+      | then-threshold-sums w ↦ raised t a.last a.sums.now a.marks l.k l.after c.if-threshold-sums.after
+          l.invariant.2 l.invariant.3 (omega arith) (rw (to_z-of_z f) at w.if-threshold-sums.true) w.after-is
       | else-threshold-sums+then-last w ↦ released t a.last a.sums.now a.marks l.k l.after c.if-threshold-sums.after
-            l.invariant.2 l.invariant.3 (omega arith) (rw (to_z-of_z f) at w.if-threshold-sums.false) w.if-last.true w.after-is
+          l.invariant.2 l.invariant.3 (omega arith) (rw (to_z-of_z f) at w.if-threshold-sums.false) w.if-last.true w.after-is
       | else-threshold-sums+else-last w ↦ stayed t a.last a.sums.now a.marks l.k l.after c.if-threshold-sums.after
-            l.invariant.2 l.invariant.3 (omega arith) (rw (to_z-of_z f) at w.if-threshold-sums.false) w.if-last.false w.after-is
-      ] in
+          l.invariant.2 l.invariant.3 (omega arith) (rw (to_z-of_z f) at w.if-threshold-sums.false) w.if-last.false w.after-is
+    ] in
     (omega arith, c.loop-k.invariant.1, p.0, p.1)
 
 pub returns : goal.returns

@@ -1,6 +1,5 @@
 -- `entries::checking::first_factor` meets its contract. The loop's invariant: no factor passed is bad. Assumes nothing.
 use mathlib.Core.Path.{◌≡◌, sym, ◌∙◌}
-use Prim.Native.Nat.{◌-◌}
 use native.Mathlib.Omega.{arith}
 use Rattle.laws.proofs.Lists.{first_below-found, first_below-none}
 use Rattle.entries.proofs.checking.first_factor.Goals as goal

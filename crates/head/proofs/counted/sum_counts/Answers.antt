@@ -1,5 +1,5 @@
 -- `head::counted::sum_counts` meets its contract. The loop's invariant: what is still to go is the same at every turn. Assumes nothing.
-use Prim.Native.Nat.{◌≤◌, ◌-◌}
+use Prim.Native.Nat.{◌≤◌}
 use native.Mathlib.Omega.{arith}
 use lib.ListN.{get_or}
 use mir.Syntax.{w16}

@@ -1,7 +1,7 @@
 -- `head::layout::next_places` meets its contract. The loop fills the array from the front. Assumes nothing.
 use mathlib.Core.Path.{◌≡◌}
 use mathlib.Core.List.{◌++◌}
-use Prim.Native.Nat.{◌≤◌, ◌-◌, ◌+◌}
+use Prim.Native.Nat.{◌≤◌, ◌-◌}
 use lib.ListN.{length, get_or, drop}
 use Rattle.laws.specs.Lists.{tabulate}
 use Rattle.head.specs.Layout.{next_of}

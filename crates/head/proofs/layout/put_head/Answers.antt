@@ -1,7 +1,7 @@
 -- `head::layout::put_head` meets its contract. The loop's invariant: what is still to go is the same at every turn. Assumes nothing.
 use mathlib.Core.Path.{◌≡◌, refl, sym, ap, ◌∙◌}
 use mathlib.Core.List.{List, ◌++◌}
-use Prim.Native.Nat.{ℕ, ◌≤◌, ◌-◌, ◌+◌}
+use Prim.Native.Nat.{ℕ, ◌≤◌, ◌+◌}
 use native.Mathlib.Omega.{arith}
 use lib.ListN.{length, drop}
 use lib.Seq.{sets}
@@ -61,5 +61,8 @@ returns c =
     let vs = f ++ (a.book.parents ++ (t ++ (a.book.counts ++ a.book.marks))) in
     let e = values-are a.size (kind_of a.second) a.book f t c.first_fields-first.ensures c.second_fields-middle.ensures in
     let k = lengths in
-    let n : length vs ≡ 117 = parts-length f a.book.parents t a.book.counts a.book.marks k.0 k.1 k.2 k.3 k.4 in record { buffer_after = fields-done widths (drop c.loop-j.j vs) c.loop-j.buffer _ c.loop-j.at c.loop-j.j (omega (arith, widths-length)) c.loop-j.invariant.3
-          ∙ ap (λ (v : List ℕ). sets a.buffer.now 0 (encode widths v)) e; book_len = ap (λ (v : List ℕ). length (encode widths v)) (sym e) ∙ length-encode widths vs (widths-length ∙ sym n) ∙ widths-size }
+    let n : length vs ≡ 117 = parts-length f a.book.parents t a.book.counts a.book.marks k.0 k.1 k.2 k.3 k.4 in record {
+      buffer_after = fields-done widths (drop c.loop-j.j vs) c.loop-j.buffer _ c.loop-j.at c.loop-j.j (omega (arith, widths-length)) c.loop-j.invariant.3
+          ∙ ap (λ (v : List ℕ). sets a.buffer.now 0 (encode widths v)) e;
+      book_len = ap (λ (v : List ℕ). length (encode widths v)) (sym e) ∙ length-encode widths vs (widths-length ∙ sym n) ∙ widths-size;
+    }

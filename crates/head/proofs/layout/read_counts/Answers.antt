@@ -1,6 +1,5 @@
 -- `head::layout::read_counts` meets its contract. The loop fills the array from the front. Assumes nothing.
 use mathlib.Core.Path.{refl}
-use Prim.Native.Nat.{◌-◌}
 use native.Mathlib.Omega.{arith}
 use lib.ListN.{length-set}
 use Rattle.laws.proofs.Lists.{tab-none, tab-step}

@@ -17,7 +17,7 @@ returns-then-not-in_range c =
     let f : SFits w32 c.get_word-price.result = search rules in
     (simp (signed, f) at c.in_range.ensures) ∙ ap (in_range (is_energy a.market)) c.get_word-price.ensures) in
     let l = c.loop-i in
-    sym (first_below-found _ _ _ (omega arith) c.loop-i.invariant.1 (ap not (sym (tested)) ∙ c.if-not-in_range.true-raw))
+    sym (first_below-found _ _ _ (omega arith) c.loop-i.invariant.1 (ap not (sym tested ∙ c.if-not-in_range.true)))
 
 pub returns : goal.returns
 returns c =

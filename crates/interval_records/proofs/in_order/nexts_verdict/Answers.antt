@@ -2,7 +2,7 @@
 -- is that of the records still to go. Assumes nothing.
 use mathlib.Core.Path.{◌≡◌, ap, ◌∙◌}
 use mathlib.Core.Bool.{true}
-use Prim.Native.Nat.{ℕ, ◌-◌}
+use Prim.Native.Nat.{ℕ}
 use native.Mathlib.Omega.{arith}
 use Rattle.pricing.specs.Verdict.{Verdict}
 use Rattle.book.specs.Record.{markets_of, is_accepted}
