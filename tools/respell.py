@@ -36,6 +36,7 @@ BY_HAND = {
     "seen_by": "seen_by-is",
     "first_below": "first_below-lt",
     "getD-tabulate": "get_or-tabulate",
+    "get_d_tabulate": "get_or-tabulate",
     "getD": "get_or",
     "libFuzzer": "libFuzzer",
 }
@@ -50,7 +51,7 @@ ONLY = {
 # Functions of src/ that have a name of BY_HAND: they keep it, and so do their proofs and edits.
 KEPT = {"first_of": ["schedule/src/pass.rt", "schedule/edits/later_bad_kept.edit", "schedule/proofs/pass/"]}
 # A part of a name that its dashes leave, where the whole is not by hand: `firstOf-split`.
-PARTS = {"firstOf": "first_below", "first_of": "first_below"}
+PARTS = {"firstOf": "first_below", "first_of": "first_below", "getD": "get_or"}
 WORD = re.compile(r"(?<![\w'′-])[A-Za-z_][\w'′₀-₉-]*")
 CAMEL = re.compile(r"^[a-z][a-z0-9]*(?:[A-Z][a-z0-9]*)+[₀-₉]*['′]*$")
 

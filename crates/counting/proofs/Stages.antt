@@ -12,7 +12,7 @@ use lib.Seq.{ext_get_or}
 use Rattle.laws.specs.Base.{pick}
 use Rattle.laws.specs.Lists.{tabulate}
 use Rattle.laws.proofs.Tests.{lt-or-ge}
-use Rattle.laws.proofs.Lists.{length_run, get_d_tabulate, tabulate-same}
+use Rattle.laws.proofs.Lists.{length_run, get_or-tabulate, tabulate-same}
 
 -- `row k` is the row of place k, `d` what is read past the end
 module _ {A : Type 0} (d : A) (N : ℕ) (row : ℕ → ℕ) (after old : ℕ → A) where
@@ -21,10 +21,10 @@ module _ {A : Type 0} (d : A) (N : ℕ) (row : ℕ → ℕ) (after old : ℕ →
 
   -- at a place that is still as it was, and at one that is not
   pub staged-old : (r k : ℕ) → k < N → r ≤ row k → get_or (staged r) k d ≡ old k
-  staged-old r k h l = get_d_tabulate _ N k d h ∙ rw (le-ltb (row k) r l)
+  staged-old r k h l = get_or-tabulate _ N k d h ∙ rw (le-ltb (row k) r l)
 
   staged-new : (r k : ℕ) → k < N → row k < r → get_or (staged r) k d ≡ after k
-  staged-new r k h l = get_d_tabulate _ N k d h ∙ rw (lt-ltb (row k) r l)
+  staged-new r k h l = get_or-tabulate _ N k d h ∙ rw (lt-ltb (row k) r l)
 
   pub staged-none : (l : List A) → length l ≡ N → ((k : ℕ) → k < N → get_or l k d ≡ old k) → l ≡ staged 0
   staged-none l n e =

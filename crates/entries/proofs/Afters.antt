@@ -13,7 +13,7 @@ use lib.Signed.{le_z, lt_z}
 use Rattle.laws.specs.Base.{pick}
 use Rattle.laws.proofs.Tests.{and_left}
 use Rattle.laws.proofs.Integers.{integers}
-use Rattle.laws.proofs.Lists.{get_d_tabulate, tabulate-same}
+use Rattle.laws.proofs.Lists.{get_or-tabulate, tabulate-same}
 use Rattle.book.specs.declared.record.Book.{Book}
 use Rattle.book.specs.Validity.{threshold_ok}
 use Rattle.book.proofs.Validities.{Valid, used, unused, used-or}
@@ -35,7 +35,7 @@ module _ (b : Book) (v : Valid b) (ring : List ℤ) (o : Offer) (last : Bool) wh
   -- an unused place stays without sum and mark
   free : (k : ℕ) → k < 88 → (b.regions ≤ k / 11) ⊎ (b.services < k % 11) → mark_after b.threshold last (get_or (sums_after b ring o) k (pos 0)) (get_or b.marks k 0) ≡ get_or b.marks k 0
   free k h z =
-      let s : get_or (sums_after b ring o) k (pos 0) ≡ pos 0 = get_d_tabulate _ 88 k (pos 0) h ∙ rw (unused b.regions b.services k z) (v.no-sum k h z) in
+      let s : get_or (sums_after b ring o) k (pos 0) ≡ pos 0 = get_or-tabulate _ 88 k (pos 0) h ∙ rw (unused b.regions b.services k z) (v.no-sum k h z) in
       rw (s, v.no-mark k h z) (no-mark b.threshold last v.threshold)
 
   pub marks-are : marks_by (11 * b.regions) b.threshold last (sums_after b ring o) b.marks ≡ marks_after b.regions b.services b.threshold last (sums_after b ring o) b.marks

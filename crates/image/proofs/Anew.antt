@@ -11,7 +11,7 @@ use lib.Dec.{ltb}
 use lib.IntN.{ℤ, pos, nat_abs}
 use lib.ListN.{length, get_or}
 use Rattle.laws.specs.Base.{pick}
-use Rattle.laws.proofs.Lists.{get_d_tabulate}
+use Rattle.laws.proofs.Lists.{get_or-tabulate}
 use Rattle.book.specs.declared.record.Book.{Book}
 use Rattle.book.specs.Record.{markets_of}
 use Rattle.book.proofs.Validities.{Valid}
@@ -50,7 +50,7 @@ oldest-first false c = refl
 
 module _ (b : Book) (v : Valid b) (s : List ℤ) where
   next-at : (r : ℕ) → r < 8 → get_or (anew_with b s).nexts r 0 ≡ next_of b.window (get_or b.counts r 0)
-  next-at r h = get_d_tabulate (λ i. next_of b.window (get_or b.counts i 0)) 8 r 0 h
+  next-at r h = get_or-tabulate (λ i. next_of b.window (get_or b.counts i 0)) 8 r 0 h
 
   pub oldest-anew : (q : ℕ) → q < market_count b → oldest_at (anew_with b s) q ≡ 0
   oldest-anew q h =

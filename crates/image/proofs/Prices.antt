@@ -11,7 +11,7 @@ use lib.Signed.{le_z}
 use Rattle.laws.specs.Lists.{all_below, total, joined, sum_from}
 use Rattle.laws.proofs.Tests.{and_left, and_right}
 use Rattle.laws.proofs.Integers.{test-le, le_test, same}
-use Rattle.laws.proofs.Lists.{all-at, at_all, length_run, get_d_tabulate, tabulate-same}
+use Rattle.laws.proofs.Lists.{all-at, at_all, length_run, get_or-tabulate, tabulate-same}
 use Rattle.laws.proofs.Joined.{sum_same, at_left, tabulate-list, length-joined, joined_at}
 use Rattle.pricing.specs.Holding.{is_energy, in_range}
 use Rattle.book.specs.declared.record.Book.{Book}
@@ -30,7 +30,7 @@ module _ (b : Book) (ring : List ℤ) where
   length-order q = length_run _ (count_at b q) 0
 
   order-at : (q i : ℕ) → i < count_at b q → get_or (in_order b ring q) i (pos 0) ≡ get_or ring (q * b.window + wrap b.window (oldest_at b q + i)) (pos 0)
-  order-at q i h = get_d_tabulate (λ k. get_or ring (q * b.window + wrap b.window (oldest_at b q + k)) (pos 0)) (count_at b q) i (pos 0) h
+  order-at q i h = get_or-tabulate (λ k. get_or ring (q * b.window + wrap b.window (oldest_at b q + k)) (pos 0)) (count_at b q) i (pos 0) h
 
   abbrev ranged_at : ℕ → ℕ → Bool
   ranged_at q i = in_range (is_energy (q % markets_of b.services)) (get_or ring (q * b.window + wrap b.window (oldest_at b q + i)) (pos 0))

@@ -11,7 +11,7 @@ use Rattle.laws.specs.Base.{pick}
 use Rattle.laws.specs.Lists.{total, joined}
 use Rattle.laws.specs.Bytes.{number, number_at, encode, decode, size_of, words, price_at}
 use Rattle.laws.proofs.Totals.{total_size}
-use Rattle.laws.proofs.Lists.{length_run, get_d_tabulate}
+use Rattle.laws.proofs.Lists.{length_run, get_or-tabulate}
 use Rattle.laws.proofs.Bytes.{number-below, bytes_drop}
 use Rattle.laws.proofs.Fields.{length-decode, encode-decode}
 use Rattle.laws.proofs.Joined.{joined_same}
@@ -105,7 +105,7 @@ module _ (l : List ℕ) (n : ℕ) (ok : LoadOk l n) where
   sum-size q h =
       let b = head_from l in
       let each : (k : ℕ) → k < length (prices_at first b l q) → nat_abs (get_or (prices_at first b l q) k (pos 0)) ≤ 10000000 =
-      λ k p. rw (get_d_tabulate (price_at l (start first b q)) (count_at b q) k (pos 0) (omega (arith, len q h)))
+      λ k p. rw (get_or-tabulate (price_at l (start first b q)) (count_at b q) k (pos 0) (omega (arith, len q h)))
       (price-size (is_energy (q % markets_of b.services)) (price_at l (start first b q) k) (good q k h (omega (arith, len q h)))) in
       omega (arith, total_size 10000000 (prices_at first b l q) each, len q h, count_of b v q h, v.window)
 
@@ -121,7 +121,7 @@ module _ (l : List ℕ) (n : ℕ) (ok : LoadOk l n) where
   market-from q h =
       let b = head_from l in
       record {
-        ranged = λ i k. rw (order_is (sums_read l) q h, get_d_tabulate (price_at l (start first b q)) (count_at b q) i (pos 0) k) (good q i h k);
+        ranged = λ i k. rw (order_is (sums_read l) q h, get_or-tabulate (price_at l (start first b q)) (count_at b q) i (pos 0) k) (good q i h k);
         summed = ap total (order_is (sums_read l) q h) ∙ sym (placed_at b v (λ p. total (prices_at first b l p)) q h);
       }
 

@@ -13,7 +13,7 @@ use Rattle.laws.specs.Lists.{tabulate}
 use Rattle.laws.specs.Bytes.{le, number_at, encode, size_of, words, price_at}
 use Rattle.laws.proofs.Bytes.{number-append-left, number-append-right, le-number_at}
 use Rattle.laws.proofs.Fields.{Fit, none, more, length-encode, decode-encode, decode-at}
-use Rattle.laws.proofs.Lists.{length_run, get_d_tabulate, tabulate-same}
+use Rattle.laws.proofs.Lists.{length_run, get_or-tabulate, tabulate-same}
 use Rattle.laws.proofs.Words.{length-words, price-back, words_back}
 use Rattle.interval_records.specs.Layout.{Interval, head_widths, region_widths, link_widths, head_length, region_length, link_length, row_of, head_record, region_record, link_record}
 
@@ -123,7 +123,7 @@ module _ (markets : ℕ) (v : Interval) (m : markets ≤ 11) (f : Fits v) (r : �
       let fs = encode region_widths values in
       let n : length (pre ++ fs) ≡ length pre + 16 = length-append pre fs ∙ omega (arith, fields-length) in
       let w : length row ≡ markets = length_run (λ k. get_or v.prices (r * markets + k) (pos 0)) markets 0 in
-      let g : get_or row i (pos 0) ≡ get_or v.prices (r * markets + i) (pos 0) = get_d_tabulate (λ k. get_or v.prices (r * markets + k) (pos 0)) markets i (pos 0) l in
+      let g : get_or row i (pos 0) ≡ get_or v.prices (r * markets + i) (pos 0) = get_or-tabulate (λ k. get_or v.prices (r * markets + k) (pos 0)) markets i (pos 0) l in
       let t : (pre ++ (fs ++ (words row ++ rest))) ≡ ((pre ++ fs) ++ words row) ++ rest = sym (append_assoc (pre ++ fs) (words row) rest ∙ append_assoc pre fs (words row ++ rest)) in
       let k : length (pre ++ fs) + 4 * i + 4 ≤ length ((pre ++ fs) ++ words row) = omega (arith, length-append (pre ++ fs) (words row), length-words row) in
       rw (t, ← n, number-append-left ((pre ++ fs) ++ words row) rest (length (pre ++ fs) + 4 * i) 4 k)

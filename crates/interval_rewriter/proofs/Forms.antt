@@ -20,7 +20,7 @@ use Rattle.laws.specs.Bytes.{number_at}
 use Rattle.laws.proofs.Bytes.{number-below}
 use Rattle.laws.proofs.Integers.{abs-fits}
 use Rattle.laws.proofs.Joined.{joined_same}
-use Rattle.laws.proofs.Lists.{length_run, get_d_tabulate, tabulate-same}
+use Rattle.laws.proofs.Lists.{length_run, get_or-tabulate, tabulate-same}
 use Rattle.laws.proofs.Tests.{by-test, never, lt-or-ge}
 use Rattle.pricing.specs.Verdict.{accepted}
 use Rattle.book.specs.declared.record.Book.{Book}
@@ -73,11 +73,11 @@ module _ (linked : Bool) (R M : ℕ) (bytes : List ℕ) (t : Bytes bytes) (at : 
   -- it fits its fields: a number read from a record is small, and past the end there is 0
   within : (f : ℕ → ℕ) (n m : ℕ) → 0 < m → ((r : ℕ) → r < n → f r < m) → (r : ℕ) → get_or (tabulate n f) r 0 < m
   within f n m z h r =
-      ⊎_elim (λ (l : r < n). rw (get_d_tabulate f n r 0 l) (h r l)) (λ (l : n ≤ r). rw (get_or-eq_default (tabulate n f) 0 {n = r} (omega (arith, length_run f n 0))) z) (lt-or-ge r n)
+      ⊎_elim (λ (l : r < n). rw (get_or-tabulate f n r 0 l) (h r l)) (λ (l : n ≤ r). rw (get_or-eq_default (tabulate n f) 0 {n = r} (omega (arith, length_run f n 0))) z) (lt-or-ge r n)
 
   signed-within : (f : ℕ → ℤ) (n : ℕ) → ((r : ℕ) → r < n → SFits w32 (f r)) → (r : ℕ) → SFits w32 (get_or (tabulate n f) r (pos 0))
   signed-within f n h r =
-      ⊎_elim (λ (l : r < n). rw (get_d_tabulate f n r (pos 0) l) (h r l)) (λ (l : n ≤ r). rw (get_or-eq_default (tabulate n f) (pos 0) {n = r} (omega (arith, length_run f n 0))) (abs-fits w32 (pos 0) (omega arith))) (lt-or-ge r n)
+      ⊎_elim (λ (l : r < n). rw (get_or-tabulate f n r (pos 0) l) (h r l)) (λ (l : n ≤ r). rw (get_or-eq_default (tabulate n f) (pos 0) {n = r} (omega (arith, length_run f n 0))) (abs-fits w32 (pos 0) (omega arith))) (lt-or-ge r n)
 
   word_fits : (p : ℕ) → p + 4 ≤ length bytes → SFits w32 (to_z w32 (number_at bytes p 4))
   word_fits p h = sfits_to_z {w = w32} {n = number_at bytes p 4} (record { fits = omega (arith, number-below bytes t p 4 h) })

@@ -9,7 +9,7 @@ use lib.ListN.{length, get_or, set, drop, drop_of_length-le, length-append, get_
 use lib.Seq.{drop-cons, set_at}
 use Rattle.laws.specs.Base.{pick}
 use Rattle.laws.specs.Lists.{tabulate}
-use Rattle.laws.proofs.Lists.{length_run, get_d_tabulate, tabulate-next}
+use Rattle.laws.proofs.Lists.{length_run, get_or-tabulate, tabulate-next}
 use Rattle.laws.proofs.Tests.{by-test, lt-or-ge}
 use Rattle.laws.proofs.Joined.{tabulate-list, at_left, at_right}
 
@@ -27,7 +27,7 @@ module _ {A : Type 0} (f : ℕ → A) (R : ℕ) (x : A) where
 
   -- the regions' places, and the last
   pub last-region : (linked : Bool) (r : ℕ) (d : A) → r < R → get_or (tabulate R f ++ pick linked (x ∷ []) []) r d ≡ f r
-  last-region linked r d h = at_left (tabulate R f) (pick linked (x ∷ []) []) R r d (length_run f R 0) h ∙ get_d_tabulate f R r d h
+  last-region linked r d h = at_left (tabulate R f) (pick linked (x ∷ []) []) R r d (length_run f R 0) h ∙ get_or-tabulate f R r d h
 
   pub last-link : (linked : Bool) (d : A) → linked ≡ true → get_or (tabulate R f ++ pick linked (x ∷ []) []) R d ≡ x
   last-link linked d l =

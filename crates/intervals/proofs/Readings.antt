@@ -11,7 +11,7 @@ use mir.Val.{of_z}
 use mir.Facts.{of_z-to_z}
 use Rattle.laws.specs.Bytes.{number_at}
 use Rattle.laws.proofs.Bytes.{number-below}
-use Rattle.laws.proofs.Lists.{get_d_tabulate, flat-div, flat-mod, flat-lt}
+use Rattle.laws.proofs.Lists.{get_or-tabulate, flat-div, flat-mod, flat-lt}
 use Rattle.interval_records.specs.Layout.{Interval, head_length}
 use Rattle.interval_records.specs.Record.{record_place, region_at}
 use Rattle.intervals.specs.Reading.{interval_at}
@@ -35,10 +35,10 @@ module _ (linked : Bool) (R M : ℕ) (bytes : List ℕ) (small : Bytes bytes) (a
         length = d.size;
         kind = d.kind;
         region = e;
-        mark = sym (get_d_tabulate _ R r 0 h);
+        mark = sym (get_or-tabulate _ R r 0 h);
         flow = sym (ap (of_z w32) (last-region _ R _ linked r (pos 0) h) ∙ of_z-to_z {w = w32} (record { fits = below (p + 8) (omega (arith, d.room)) }));
         factor = sym (last-region _ R _ linked r 0 h);
-        price = λ m l. sym (get_d_tabulate _ (R * M) (r * M + m) (pos 0) (flat-lt r m R M h l) ∙ rw (flat-div r m M l, flat-mod r m M l));
+        price = λ m l. sym (get_or-tabulate _ (R * M) (r * M + m) (pos 0) (flat-lt r m R M h l) ∙ rw (flat-div r m M l, flat-mod r m M l));
       }
 
   pub read-link : linked ≡ true → LinkDue bytes (record_place M (at + head_length) R) → LinkSays R bytes (record_place M (at + head_length) R) read

@@ -12,7 +12,7 @@ use lib.ListN.{length, take, get_or}
 use Rattle.laws.specs.Base.{pick}
 use Rattle.laws.specs.Lists.{tabulate, total, last_n}
 use Rattle.laws.proofs.Tests.{by-test}
-use Rattle.laws.proofs.Lists.{all_same, any_same, get_d_tabulate}
+use Rattle.laws.proofs.Lists.{all_same, any_same, get_or-tabulate}
 use Rattle.pricing.specs.Verdict.{accepted}
 use Rattle.book.specs.Record.{markets_of}
 use Rattle.book_calls.specs.Report.{Numbers, report_verdict}
@@ -75,7 +75,7 @@ module _ (M r : ℕ) where
   prices-parts m l zero (interval e ∷ h) = by-test (is_unmarked e r) (λ t. rw t) (λ t. rw t)
   prices-parts m l (suc n) (interval e ∷ h) =
       by-test (is_unmarked e r)
-      (λ t. rw t (ap₂ ◌∷◌ (get_d_tabulate (entry_price M e r) M m (pos 0) l) (prices-parts m l n h)))
+      (λ t. rw t (ap₂ ◌∷◌ (get_or-tabulate (entry_price M e r) M m (pos 0) l) (prices-parts m l n h)))
       (λ t. rw t (prices-parts m l n h))
   prices-parts m l n (threshold-set x ∷ h) = prices-parts m l n h
   prices-parts m l n (limits-set c f ∷ h) = prices-parts m l n h

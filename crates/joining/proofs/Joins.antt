@@ -9,7 +9,7 @@ use lib.Dec.{eqb}
 use lib.IntN.{ℤ, pos, negsuc, nat_abs}
 use lib.ListN.{get_or}
 use Rattle.laws.proofs.Integers.{le_test, abs-parts}
-use Rattle.laws.proofs.Lists.{get_d_tabulate, flat-div, flat-mod, flat-lt}
+use Rattle.laws.proofs.Lists.{get_or-tabulate, flat-div, flat-mod, flat-lt}
 use Rattle.laws.proofs.Tests.{by-test}
 use Rattle.pricing.specs.Holding.{is_energy, in_range}
 use Rattle.publishing.specs.declared.Terms.{Terms}
@@ -42,5 +42,5 @@ module _ (t : Terms) (ok : TermsOk t) (marks : List ℕ) (e : Entry) (links : Li
 
   pub joined-ranged : (reached : Bool) (m : ℕ) → m < t.markets → in_range (is_energy m) (get_or (joined reached t marks e).prices (flat t region m) (pos 0)) ≡ true
   joined-ranged true m l =
-      rw (get_d_tabulate (joined_at t marks e) (t.regions * t.markets) (flat t region m) (pos 0) (flat-lt region m t.regions t.markets here l)) (at-ranged m l)
+      rw (get_or-tabulate (joined_at t marks e) (t.regions * t.markets) (flat t region m) (pos 0) (flat-lt region m t.regions t.markets here l)) (at-ranged m l)
   joined-ranged false m l = ranged m l

@@ -11,7 +11,7 @@ use lib.ListN.{length, get_or, take, drop, length-append, get_or-append}
 use lib.Seq.{ext_get_or, get_or-append-add, get_or-set_same, get_or-set_other, drop-cons}
 use Rattle.laws.specs.Lists.{run, tabulate, puts, joined, sum_from, places_of}
 use Rattle.laws.proofs.Tests.{lt-or-ge}
-use Rattle.laws.proofs.Lists.{length_run, get_d_tabulate, length-puts}
+use Rattle.laws.proofs.Lists.{length_run, get_or-tabulate, length-puts}
 
 -- ---- sums
 pub sum-last : (n i : ℕ) (f : ℕ → ℕ) → sum_from (suc n) i f ≡ sum_from n i f + f (i + n)
@@ -72,7 +72,7 @@ module _ {A : Type 0} where
   -- a list is the table of its elements
   pub tabulate-list : (d : A) (l : List A) (n : ℕ) → length l ≡ n → tabulate n (λ i. get_or l i d) ≡ l
   tabulate-list d l n e =
-      ext_get_or d _ l (length_run _ n 0 ∙ sym e) (λ i h. get_d_tabulate _ n i d (omega (arith, length_run (λ i. get_or l i d) n 0)))
+      ext_get_or d _ l (length_run _ n 0 ∙ sym e) (λ i h. get_or-tabulate _ n i d (omega (arith, length_run (λ i. get_or l i d) n 0)))
 
   -- a part of a list is the table of its elements
   pub take-run : (d : A) (l : List A) (n i : ℕ) → i + n ≤ length l → take n (drop i l) ≡ run n i (λ k. get_or l k d)
@@ -85,7 +85,7 @@ pub places-whole : (l : List ℤ) → places_of l 0 (length l) ≡ l
 places-whole l =
     let f : ℕ → ℤ = λ i. get_or l (0 + i) (pos 0) in
     ext_get_or (pos 0) _ l (length_run f (length l) 0)
-    (λ i h. let z : 0 + i ≡ i = omega arith in get_d_tabulate f (length l) i (pos 0) (omega (arith, length_run f (length l) 0)) ∙ ap (λ (k : ℕ). get_or l k (pos 0)) z)
+    (λ i h. let z : 0 + i ≡ i = omega arith in get_or-tabulate f (length l) i (pos 0) (omega (arith, length_run f (length l) 0)) ∙ ap (λ (k : ℕ). get_or l k (pos 0)) z)
 
 -- ---- lists one after the other, f i of the length c i
 module _ {A : Type 0} where

@@ -132,8 +132,8 @@ module _ {A : Type 0} (f : ℕ → A) where
   get_or-run (suc n) i zero d h = ap f (omega arith)
   get_or-run (suc n) i (suc k) d h = get_or-run n (suc i) k d (omega arith) ∙ ap f (omega arith)
 
-  pub get_d_tabulate : (n k : ℕ) (d : A) → k < n → get_or (tabulate n f) k d ≡ f k
-  get_d_tabulate n k d h = get_or-run n 0 k d h ∙ ap f (omega arith)
+  pub get_or-tabulate : (n k : ℕ) (d : A) → k < n → get_or (tabulate n f) k d ≡ f k
+  get_or-tabulate n k d h = get_or-run n 0 k d h ∙ ap f (omega arith)
 
   run-snoc : (n i : ℕ) → run (suc n) i f ≡ run n i f ++ (f (i + n) ∷ [])
   unfolding run

@@ -12,7 +12,7 @@ use lib.ListN.{length, get_or}
 use Rattle.laws.specs.Base.{pick}
 use Rattle.laws.specs.Lists.{total}
 use Rattle.laws.proofs.Tests.{and_left, and_right, by-test}
-use Rattle.laws.proofs.Lists.{tabulate-same, get_d_tabulate}
+use Rattle.laws.proofs.Lists.{tabulate-same, get_or-tabulate}
 use Rattle.book.specs.declared.record.Book.{Book}
 use Rattle.book.specs.Record.{markets_of, place_of}
 use Rattle.book.specs.Validity.{used_place, valid}
@@ -127,7 +127,7 @@ module _ (s : Held) (p : Ledger) (a : Agree s p) (e : Entry) (room : s.book.entr
     used-there = rw (a.regions, a.services) used
 
     mark_was : get_or b.marks k 0 ≡ pick (administered_at p (k / 11) (k % 11) (taken p)) 1 0
-    mark_was = ap (λ (l : List ℕ). get_or l k 0) a.marks ∙ get_d_tabulate _ 88 k 0 below ∙ rw used-there
+    mark_was = ap (λ (l : List ℕ). get_or l k 0) a.marks ∙ get_or-tabulate _ 88 k 0 below ∙ rw used-there
 
     mark-used : mark_after b.threshold (last_of_day b.halves b.position) (get_or (sums_after b ring e.offer) k (pos 0)) (get_or b.marks k 0)
         ≡ pick (administered_at next (k / 11) (k % 11) (taken next)) 1 0
@@ -149,7 +149,7 @@ module _ (s : Held) (p : Ledger) (a : Agree s p) (e : Entry) (room : s.book.entr
           ≡ pick (used_place p.settings.regions p.settings.services k && administered_at next (k / 11) (k % 11) (taken next)) 1 0
       no k h u =
           let v : used_place p.settings.regions p.settings.services k ≡ false = rw (a.regions, a.services) u in
-          rw (v, u) (ap (λ (l : List ℕ). get_or l k 0) a.marks ∙ get_d_tabulate _ 88 k 0 h ∙ rw v)
+          rw (v, u) (ap (λ (l : List ℕ). get_or l k 0) a.marks ∙ get_or-tabulate _ 88 k 0 h ∙ rw v)
 
   some-halves : 1 ≤ b.halves
   some-halves = (valid-is b a.holds.accepted).some-halves

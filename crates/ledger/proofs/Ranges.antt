@@ -10,7 +10,7 @@ use lib.Signed.{le_z}
 use lib.ListN.{length, get_or}
 use Rattle.laws.specs.Lists.{all_below, total}
 use Rattle.laws.proofs.Integers.{up, dn, test-le, le_test, same}
-use Rattle.laws.proofs.Lists.{get_d_tabulate, length_run, flat-div, flat-mod, flat-lt}
+use Rattle.laws.proofs.Lists.{get_or-tabulate, length_run, flat-div, flat-mod, flat-lt}
 use Rattle.laws.proofs.Tests.{and_left, and_right}
 use Rattle.laws.proofs.Totals.{total_size}
 use Rattle.pricing.specs.Holding.{is_energy, lowest, in_range}
@@ -63,14 +63,14 @@ module _ (ring : List ℤ) (base w s n m : ℕ) (sum : ℤ) where
   window-is : window_ok ring base w s n m sum ≡ true → Every (Ranged m) (window_of ring base w s n) × (sum ≡ total (window_of ring base w s n))
   window-is e = (
     λ k h. let l : k < n = omega (arith, length_run read n 0) in
-        rw (get_d_tabulate read n k (pos 0) l) (all-at n (λ i. in_range (is_energy m) (read i)) (and_left all-ok total-ok e) k l),
+        rw (get_or-tabulate read n k (pos 0) l) (all-at n (λ i. in_range (is_energy m) (read i)) (and_left all-ok total-ok e) k l),
     equal_is sum (total (window_of ring base w s n)) (and_right all-ok total-ok e),
   )
 
   is-window : Every (Ranged m) (window_of ring base w s n) → sum ≡ total (window_of ring base w s n) → window_ok ring base w s n m sum ≡ true
   is-window all q =
       let a : all-ok ≡ true =
-      at_all n (λ i. in_range (is_energy m) (read i)) (λ k l. subst (Ranged m) (get_d_tabulate read n k (pos 0) l) (all k (omega (arith, length_run read n 0)))) in
+      at_all n (λ i. in_range (is_energy m) (read i)) (λ k l. subst (Ranged m) (get_or-tabulate read n k (pos 0) l) (all k (omega (arith, length_run read n 0)))) in
       rw (a, q) (is-equal (total (window_of ring base w s n)))
 
 pub record Prices (b : Book) (ring : List ℤ) : Type 0 where

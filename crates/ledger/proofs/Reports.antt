@@ -11,7 +11,7 @@ use lib.ListN.{length, get_or}
 use Rattle.laws.specs.Base.{pick}
 use Rattle.laws.specs.Lists.{total}
 use Rattle.laws.proofs.Tests.{and_left, and_right, by-test}
-use Rattle.laws.proofs.Lists.{get_d_tabulate}
+use Rattle.laws.proofs.Lists.{get_or-tabulate}
 use Rattle.pricing.specs.Verdict.{accepted}
 use Rattle.book.specs.Record.{markets_of, place_of, is_accepted}
 use Rattle.book_calls.specs.Report as Report
@@ -39,7 +39,7 @@ module _ (s : Held) (p : Ledger) (a : Agree s p) where
         let R = s.book.regions in
         let S = s.book.services in
         ap (λ (x : List ℕ). get_or x (place_of r m) 0) a.marks
-        ∙ get_d_tabulate _ 88 (place_of r m) 0 (place-below R S r m o.regions o.services h l)
+        ∙ get_or-tabulate _ 88 (place_of r m) 0 (place-below R S r m o.regions o.services h l)
         ∙ rw (a.regions, a.services, place-used R S r m o.regions o.services h l, place-region R S r m o.regions o.services h l, place-market R S r m o.regions o.services h l)
 
   -- the figures of a market, on either side

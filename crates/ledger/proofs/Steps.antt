@@ -11,7 +11,7 @@ use lib.IntN.{ℤ, pos, ◌+ℤ◌, ◌-ℤ◌}
 use lib.ListN.{length, get_or}
 use Rattle.laws.specs.Base.{pick}
 use Rattle.laws.specs.Lists.{tabulate, total}
-use Rattle.laws.proofs.Lists.{get_d_tabulate, length_run, flat-div, flat-mod, flat-lt}
+use Rattle.laws.proofs.Lists.{get_or-tabulate, length_run, flat-div, flat-mod, flat-lt}
 use Rattle.laws.proofs.Tests.{by-test}
 use Rattle.book.specs.declared.record.Book.{Book}
 use Rattle.book.specs.Record.{markets_of, place_of}
@@ -58,10 +58,10 @@ module _ (R S r m : ℕ) (a : R ≤ 8) (c : S ≤ 10) (h : r < R) (l : m < marke
   place-used = rw (place-region, place-market, lt-ltb r R h, le-leb m S (omega arith))
 
   at-used : {A : Type 0} (f g : ℕ → A) (d : A) → get_or (tabulate 88 (λ k. pick (used_place R S k) (f k) (g k))) (place_of r m) d ≡ f (place_of r m)
-  at-used f g d = get_d_tabulate (λ k. pick (used_place R S k) (f k) (g k)) 88 (place_of r m) d place-below ∙ rw place-used
+  at-used f g d = get_or-tabulate (λ k. pick (used_place R S k) (f k) (g k)) 88 (place_of r m) d place-below ∙ rw place-used
 
 at-unused : {A : Type 0} (R S k : ℕ) (f g : ℕ → A) (d : A) → k < 88 → used_place R S k ≡ false → get_or (tabulate 88 (λ k. pick (used_place R S k) (f k) (g k))) k d ≡ g k
-at-unused R S k f g d h e = get_d_tabulate (λ k. pick (used_place R S k) (f k) (g k)) 88 k d h ∙ rw e
+at-unused R S k f g d h e = get_or-tabulate (λ k. pick (used_place R S k) (f k) (g k)) 88 k d h ∙ rw e
 
 module _ (b : Book) (o : Offer) (r : ℕ) (h : r < b.regions) where
   joins-is : joins b o r ≡ unmarked o r
@@ -71,13 +71,13 @@ module _ (b : Book) (ring : List ℤ) (s : Sound b ring) (o : Offer) (r : ℕ) (
   pub count-after : get_or (counts_after b o) r 0 ≡ pick (unmarked o r) (grown b.window (get_or b.counts r 0)) (get_or b.counts r 0)
   count-after =
       let a : r < 8 = omega (arith, s.regions) in
-      get_d_tabulate (λ k. pick (joins b o k) (grown b.window (get_or b.counts k 0)) (get_or b.counts k 0)) 8 r 0 a
+      get_or-tabulate (λ k. pick (joins b o k) (grown b.window (get_or b.counts k 0)) (get_or b.counts k 0)) 8 r 0 a
       ∙ ap (λ (t : Bool). pick t (grown b.window (get_or b.counts r 0)) (get_or b.counts r 0)) (joins-is b o r h)
 
   pub next-after : get_or (nexts_after b o) r 0 ≡ pick (unmarked o r) (following b.window (get_or b.nexts r 0)) (get_or b.nexts r 0)
   next-after =
       let a : r < 8 = omega (arith, s.regions) in
-      get_d_tabulate (λ k. pick (joins b o k) (following b.window (get_or b.nexts k 0)) (get_or b.nexts k 0)) 8 r 0 a
+      get_or-tabulate (λ k. pick (joins b o k) (following b.window (get_or b.nexts k 0)) (get_or b.nexts k 0)) 8 r 0 a
       ∙ ap (λ (t : Bool). pick t (following b.window (get_or b.nexts r 0)) (get_or b.nexts r 0)) (joins-is b o r h)
 
   module _ (m : ℕ) (l : m < markets_of b.services) where
@@ -87,7 +87,7 @@ module _ (b : Book) (ring : List ℤ) (s : Sound b ring) (o : Offer) (r : ℕ) (
     place_after j p =
         let i : ℕ = market_at b r m * b.window + j in
         let f : i < length ring = omega (arith, s.ring-size, flat-lt (market_at b r m) j (b.regions * markets_of b.services) b.window (flat-lt r m b.regions (markets_of b.services) h l) p) in
-        get_d_tabulate (λ k. pick (written b o k) (joining o (k / b.window)) (get_or ring k (pos 0))) (length ring) i (pos 0) f
+        get_or-tabulate (λ k. pick (written b o k) (joining o (k / b.window)) (get_or ring k (pos 0))) (length ring) i (pos 0) f
         ∙ rw (flat-div (market_at b r m) j b.window p, flat-mod (market_at b r m) j b.window p, flat-div r m (markets_of b.services) l, lt-ltb r b.regions h)
 
     place-stays : unmarked o r ≡ false → (j : ℕ) → j < b.window → window_at b (ring_after b ring o) r m l j ≡ window_at b ring r m l j
@@ -180,10 +180,10 @@ module _ (b : Book) (o : Offer) (r : ℕ) (h : b.regions ≤ r) (l : r < 8) wher
   joins-not = rw (le-ltb r b.regions h)
 
   pub count-unused : get_or (counts_after b o) r 0 ≡ get_or b.counts r 0
-  count-unused = get_d_tabulate (λ k. pick (joins b o k) (grown b.window (get_or b.counts k 0)) (get_or b.counts k 0)) 8 r 0 l ∙ rw joins-not
+  count-unused = get_or-tabulate (λ k. pick (joins b o k) (grown b.window (get_or b.counts k 0)) (get_or b.counts k 0)) 8 r 0 l ∙ rw joins-not
 
   pub next-unused : get_or (nexts_after b o) r 0 ≡ get_or b.nexts r 0
-  next-unused = get_d_tabulate (λ k. pick (joins b o k) (following b.window (get_or b.nexts k 0)) (get_or b.nexts k 0)) 8 r 0 l ∙ rw joins-not
+  next-unused = get_or-tabulate (λ k. pick (joins b o k) (following b.window (get_or b.nexts k 0)) (get_or b.nexts k 0)) 8 r 0 l ∙ rw joins-not
 
 -- ---- positions
 module _ (H : ℕ) (some : 1 ≤ H) where

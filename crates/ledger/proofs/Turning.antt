@@ -11,7 +11,7 @@ use lib.IntN.{ℤ, pos}
 use lib.ListN.{length, drop, get_or}
 use Rattle.laws.specs.Base.{pick}
 use Rattle.laws.specs.Lists.{run, tabulate}
-use Rattle.laws.proofs.Lists.{length_run, get_d_tabulate, tabulate-next, tabulate-same}
+use Rattle.laws.proofs.Lists.{length_run, get_or-tabulate, tabulate-next, tabulate-same}
 use Rattle.laws.proofs.Tests.{by-test, lt-or-ge}
 use Rattle.head.specs.Counted.{wrap}
 use Rattle.counting.specs.Windows.{grown, following}
@@ -157,7 +157,7 @@ module _ (W c n : ℕ) (placed : Placed W c n) where
   pub around-first : (g : ℕ → ℤ) → W ≤ c → get_or (around W g c n) 0 (pos 0) ≡ g n
   around-first g l =
       let b : n < W = placed.below in
-      get_d_tabulate (λ i. g (wrap W (oldest W c n + i))) c 0 (pos 0) (omega arith)
+      get_or-tabulate (λ i. g (wrap W (oldest W c n + i))) c 0 (pos 0) (omega arith)
       ∙ ap (λ (s : ℕ). g (wrap W (s + 0))) (oldest-next l n)
       ∙ ap g (wrap-low W (n + 0) (omega arith) ∙ omega arith)
 

@@ -11,7 +11,7 @@ use lib.ListN.{length, drop, get_or, replicate, length-append, length-drop, leng
 use lib.Seq.{get_or-drop}
 use Rattle.laws.specs.Base.{pick}
 use Rattle.laws.specs.Lists.{total, last_n}
-use Rattle.laws.proofs.Lists.{get_d_tabulate, length_run}
+use Rattle.laws.proofs.Lists.{get_or-tabulate, length_run}
 use Rattle.laws.proofs.Tests.{by-test, lt-or-ge}
 use Rattle.head.specs.Counted.{wrap, window_of}
 use Rattle.ledger.proofs.Joining.{pushed-total}
@@ -66,7 +66,7 @@ sum-walk ring base W s c x n most h =
     there : pick (ltb (c + n) W) (pos 0) (get_or (window_of ring base W s c) (c + n - W) (pos 0)) ≡ leaving ring base W s c n
     there =
         by-test (ltb (c + n) W) (λ t. rw t)
-        (λ t. rw t (get_d_tabulate (λ i. get_or ring (base + wrap W (s + i)) (pos 0)) c (c + n - W) (pos 0) (omega (arith, ltb-false (c + n) W t))))
+        (λ t. rw t (get_or-tabulate (λ i. get_or ring (base + wrap W (s + i)) (pos 0)) c (c + n - W) (pos 0) (omega (arith, ltb-false (c + n) W t))))
 
 -- before the first of them: the sum of the window as it is
 pub sum-start : (ring : List ℤ) (base W s c : ℕ) (x : ℤ) → c ≤ W → sum_with W (window_of ring base W s c) x 0 ≡ total (window_of ring base W s c)

@@ -16,7 +16,7 @@ use Rattle.laws.specs.Base.{pick, min_z, max_z}
 use Rattle.laws.specs.Lists.{run, any_below}
 use Rattle.laws.proofs.Integers.{integers, abs-fits, le_test, le_order}
 use Rattle.laws.proofs.Tests.{and_left, and_right, true-is, by-test}
-use Rattle.laws.proofs.Lists.{get_d_tabulate, tabulate-same, at-any}
+use Rattle.laws.proofs.Lists.{get_or-tabulate, tabulate-same, at-any}
 use Rattle.pricing.specs.Holding.{limits_ok}
 use Rattle.pricing.specs.Carrying.{Factor}
 use Rattle.book.proofs.Ways.{links-least, links-more}
@@ -244,11 +244,11 @@ module _ (caps : Bool) (t : Terms) (ok : TermsOk t) (flows : List ℤ) (factors 
       → get_or (bounds_of caps t (sources caps t marks o) flows factors) r (pos 0) ≡ bound_of caps (limit caps t marks (record { offer = o; flows = flows; factors = factors }) r)
   unfolding limit
   bound-is marks o r h =
-      get_d_tabulate _ 8 r (pos 0) (omega (arith, ok.regions.1))
+      get_or-tabulate _ 8 r (pos 0) (omega (arith, ok.regions.1))
       ∙ rw (lt-ltb r t.regions h) (ap (λ (l : Limit). bound_of caps (in_cents l)) (limit-by caps t flows factors (λ x. get_or (sources caps t marks o) x false) (has_limit caps t marks o) source-at r h))
     where
       source-at : (x : ℕ) → x < t.regions → get_or (sources caps t marks o) x false ≡ has_limit caps t marks o x
-      source-at x i = get_d_tabulate _ 8 x false (omega (arith, ok.regions.1)) ∙ rw (lt-ltb x t.regions i)
+      source-at x i = get_or-tabulate _ 8 x false (omega (arith, ok.regions.1)) ∙ rw (lt-ltb x t.regions i)
 
   -- what the code reads of them
   pub read_is : (marks : List ℕ) (o : Offer) (r : ℕ) → r < t.regions → {hits : List Bool} {all : List ℤ} → hits ≡ sources caps t marks o → all ≡ bounds_of caps t hits flows factors

@@ -11,7 +11,7 @@ use lib.ListN.{get_or}
 use lib.Signed.{lt_z}
 use borrow.Author.Tests.{eqb-true, lt-ltb}
 use Rattle.laws.specs.Base.{pick}
-use Rattle.laws.proofs.Lists.{get_d_tabulate}
+use Rattle.laws.proofs.Lists.{get_or-tabulate}
 use Rattle.laws.proofs.Tests.{and_left}
 use Rattle.pricing.specs.Carrying.{Factor}
 use Rattle.routes.specs.declared.Limit.{Limit}
@@ -42,7 +42,7 @@ module _ (l : Network) (flows : List ℤ) (factors : List ℕ) (few : l.regions 
   power-table x y i j =
       let d : (8 * x + y) / 8 ≡ x = omega arith in
       let m : (8 * x + y) % 8 ≡ y = omega arith in
-      get_d_tabulate (power_at l flows factors) 64 (8 * x + y) 0 (omega arith) ∙ rw (d, m, lt-ltb x l.regions i, lt-ltb y l.regions j)
+      get_or-tabulate (power_at l flows factors) 64 (8 * x + y) 0 (omega arith) ∙ rw (d, m, lt-ltb x l.regions i, lt-ltb y l.regions j)
 
   pub limit-table : (caps : Bool) (own : ℕ → Limit) (x : ℕ) → x < l.regions
       → limit_of caps (λ x y. get_or (powers_of l flows factors) (8 * x + y) 0) own l.regions x ≡ limit_of caps (power_of l flows factors) own l.regions x

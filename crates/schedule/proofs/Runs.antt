@@ -14,7 +14,7 @@ use lib.ListN.{length, get_or, set, replicate, length-set, get_or-replicate, get
 use lib.Seq.{ext_get_or, get_or-set_same, get_or-set_other}
 use Rattle.laws.specs.Base.{pick}
 use Rattle.laws.specs.Lists.{tabulate, places_of, all_below, first_below, total}
-use Rattle.laws.proofs.Lists.{length_run, get_d_tabulate, tabulate-same, tabulate-const, all_same, first_below-same, first_below-all, first_below-some, first_below-most, first_below-split, flat-div, flat-mod}
+use Rattle.laws.proofs.Lists.{length_run, get_or-tabulate, tabulate-same, tabulate-const, all_same, first_below-same, first_below-all, first_below-some, first_below-most, first_below-split, flat-div, flat-mod}
 use Rattle.laws.proofs.Tests.{by-test, lt-or-ge}
 use Rattle.pricing.specs.Holding.{in_range}
 use Rattle.schedule.specs.Schedule.{prices_of}
@@ -35,7 +35,7 @@ module _ {A : Type 0} (f : List ℤ → A) (z : A) (H : ℕ) (prices : List ℤ)
   table days = tabulate 96 (cell days)
 
   pub table_at : (days : ℕ → ℕ) (k : ℕ) → k < 96 → get_or (table days) k z ≡ cell days k
-  table_at days k h = get_d_tabulate (cell days) 96 k z h
+  table_at days k h = get_or-tabulate (cell days) 96 k z h
 
   pub table-size : (days : ℕ → ℕ) → length (table days) ≡ 96
   table-size days = length_run (cell days) 96 0
@@ -159,7 +159,7 @@ module _ (energy : Bool) (prices : List ℤ) where
       there j = in_range energy (get_or prices (from + j) (pos 0))
 
       at : (j : ℕ) → j < 6 → in_range energy (get_or (places_of prices from 6) j (pos 0)) ≡ there j
-      at j h = ap (in_range energy) (get_d_tabulate (λ i. get_or prices (from + i) (pos 0)) 6 j (pos 0) h)
+      at j h = ap (in_range energy) (get_or-tabulate (λ i. get_or prices (from + i) (pos 0)) 6 j (pos 0) h)
 
       in-range : all_in_range energy (places_of prices from 6) ≡ all_below 6 there
       in-range = all_same 6 (λ j. in_range energy (get_or (places_of prices from 6) j (pos 0))) there at

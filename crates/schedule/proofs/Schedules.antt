@@ -18,7 +18,7 @@ use Rattle.laws.specs.Lists.{run, tabulate, puts, total}
 use mir.Syntax.{Width}
 use mir.Val.{SFits, hbits}
 use Rattle.laws.proofs.Integers.{abs-add, abs-fits}
-use Rattle.laws.proofs.Lists.{all-at, any_at, length_run, get_d_tabulate, tabulate-same, first_below-passed, first_below-all, first_below-some, flat-lt}
+use Rattle.laws.proofs.Lists.{all-at, any_at, length_run, get_or-tabulate, tabulate-same, first_below-passed, first_below-all, first_below-some, flat-lt}
 use Rattle.laws.proofs.Tests.{true-is, and_left, and_right, by-test, lt-or-ge}
 use Rattle.laws.proofs.Totals.{total-append, total-next, total_size}
 use Rattle.pricing.specs.Verdict.{accepted, refused, refused_at}
@@ -62,7 +62,7 @@ module _ (H : ℕ) (prices : List ℤ) (d h : ℕ) where
   half-bounded : ((k : ℕ) → nat_abs (get_or prices k (pos 0)) ≤ 10000000) → Bounded (half_hour H prices d h)
   half-bounded most =
       total_size 10000000 (half_hour H prices d h)
-      (λ k p. rw (get_d_tabulate (λ j. get_or prices (d * (6 * H) + 6 * h + j) (pos 0)) 6 k (pos 0) (omega (arith, half_length))) (most (d * (6 * H) + 6 * h + k)))
+      (λ k p. rw (get_or-tabulate (λ j. get_or prices (d * (6 * H) + 6 * h + j) (pos 0)) 6 k (pos 0) (omega (arith, half_length))) (most (d * (6 * H) + 6 * h + k)))
 
 -- they lie within the 28 days
 pub within : {H : ℕ} {prices : List ℤ} {kinds : List ℕ} → Days H prices kinds → (d h : ℕ) → d < 28 → h < H → (d * (6 * H) + 6 * h + 6 ≤ length prices) × (length prices ≤ 8064)
@@ -152,7 +152,7 @@ module _ (f : ℕ → ℤ) where
   filled_none = refl
 
   filled_at : (h k : ℕ) → k < 48 → get_or (filled h) k (pos 0) ≡ pick (ltb k h) (f k) (pos 0)
-  filled_at h k p = get_d_tabulate (λ k. pick (ltb k h) (f k) (pos 0)) 48 k (pos 0) p
+  filled_at h k p = get_or-tabulate (λ k. pick (ltb k h) (f k) (pos 0)) 48 k (pos 0) p
 
   filled-length : (h : ℕ) → length (filled h) ≡ 48
   filled-length h = length_run (λ k. pick (ltb k h) (f k) (pos 0)) 48 0

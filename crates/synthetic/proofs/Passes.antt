@@ -11,7 +11,7 @@ use lib.IntN.{ℤ, pos, negsuc, ◌-ℤ◌}
 use lib.ListN.{length, get_or, replicate, length-replicate}
 use Rattle.laws.specs.Lists.{tabulate}
 use Rattle.laws.proofs.Tests.{by-test}
-use Rattle.laws.proofs.Lists.{length_run, get_d_tabulate, first_below-none}
+use Rattle.laws.proofs.Lists.{length_run, get_or-tabulate, first_below-none}
 use Rattle.laws.proofs.Integers.{le_test, dif-parts}
 use Rattle.pricing.specs.Holding.{is_energy, in_range}
 use Rattle.book.specs.declared.record.Book.{Book}
@@ -58,14 +58,14 @@ none-marked n = first_below-none n _ (λ k h. rw (no-mark n k) refl)
 
 prices-in : (R M : ℕ) (d : ℕ → ℕ)
     → first_price R M (tabulate (R * M) (λ q. price_of (q % M) (d q))) (replicate R 0) ≡ R * M
-prices-in R M d = first_below-none (R * M) _ (λ k h. rw (no-mark R (k / M), get_d_tabulate price (R * M) k (pos 0) h, price-in (k % M) (d k)) refl)
+prices-in R M d = first_below-none (R * M) _ (λ k h. rw (no-mark R (k / M), get_or-tabulate price (R * M) k (pos 0) h, price-in (k % M) (d k)) refl)
   where
     price : ℕ → ℤ
     price q = price_of (q % M) (d q)
 
 factors-in : (links R : ℕ) (parents : List ℕ) (d : ℕ → ℕ) → first_factor links R parents (tabulate links (λ r. factor_of (d r))) ≡ links
 factors-in links R parents d =
-    first_below-none links _ (λ k h. rw (get_d_tabulate (λ r. factor_of (d r)) links k 0 h, factor-in (d k)) (none (has_factor R parents k)))
+    first_below-none links _ (λ k h. rw (get_or-tabulate (λ r. factor_of (d r)) links k 0 h, factor-in (d k)) (none (has_factor R parents k)))
   where
     none : (t : Bool) → (t && false) ≡ false
     none true = refl
