@@ -37,6 +37,7 @@ BY_HAND = {
     "first_below": "first_below-lt",
     "getD-tabulate": "get_or-tabulate",
     "get_d_tabulate": "get_or-tabulate",
+    "get_d_any": "get_or-any",
     "getD": "get_or",
     "libFuzzer": "libFuzzer",
 }

@@ -11,7 +11,7 @@ use lib.ListN.{length, get_or}
 use Rattle.laws.specs.Base.{pick}
 use Rattle.laws.specs.Lists.{first_below}
 use Rattle.laws.proofs.Tests.{and_left, and_right, true-is}
-use Rattle.laws.proofs.Lists.{first_below-passed, flat-div, flat-mod, flat-lt, get_d_any}
+use Rattle.laws.proofs.Lists.{first_below-passed, flat-div, flat-mod, flat-lt, get_or-any}
 use Rattle.pricing.specs.Verdict.{Verdict, accepted, refused_at}
 use Rattle.pricing.specs.Holding.{is_energy, in_range}
 use Rattle.pricing.specs.Carrying.{Factor}
@@ -138,5 +138,5 @@ module _ (b : Book) (ring n : ℕ) (e : Entry) (table : ℕ) (a : Accepts b ring
     flows-size = a.flows-size;
     factors-size = a.factors-size;
     extra = a.extra;
-    linked = λ r h k. a.factors r h (λ z. k (get_d_any b.parents r 0 255 (omega (arith, (valid-is b a.valid).regions)) ∙ z));
+    linked = λ r h k. a.factors r h (λ z. k (get_or-any b.parents r 0 255 (omega (arith, (valid-is b a.valid).regions)) ∙ z));
   }

@@ -248,10 +248,10 @@ tabulate-const {A} a n = from n 0
     from (suc m) i = ap (λ (l : List A). a ∷ l) (from m (suc i))
 
 -- within a list it does not matter what would be read past its end
-pub get_d_any : {A : Type 0} (l : List A) (k : ℕ) (d e : A) → k < length l → get_or l k d ≡ get_or l k e
-get_d_any [] k d e h = absurd (not-suc-le-zero h)
-get_d_any (a ∷ l) zero d e h = refl
-get_d_any (a ∷ l) (suc k) d e h = get_d_any l k d e (omega arith)
+pub get_or-any : {A : Type 0} (l : List A) (k : ℕ) (d e : A) → k < length l → get_or l k d ≡ get_or l k e
+get_or-any [] k d e h = absurd (not-suc-le-zero h)
+get_or-any (a ∷ l) zero d e h = refl
+get_or-any (a ∷ l) (suc k) d e h = get_or-any l k d e (omega arith)
 
 -- ---- scattered stores
 module _ {A : Type 0} (l : List A) (at : ℕ → ℕ) (v : ℕ → A) where

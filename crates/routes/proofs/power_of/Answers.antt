@@ -1,5 +1,5 @@
 -- `routes::power_of` meets its contract. Assumes nothing.
-use Rattle.laws.proofs.Lists.{get_d_any}
+use Rattle.laws.proofs.Lists.{get_or-any}
 use borrow.Author.Rules.{rules}
 use native.Mathlib.Omega.{arith}
 use lib.Dec.{eqb}
@@ -31,7 +31,7 @@ returns-then-up c =
     let g : SFits w32 (get_or s.flows.now s.y (pos 0)) = search rules in
     let n : length s.network.parents ≡ 8 = search rules in
     let up : goes_up s.network.parents s.flows.now s.x s.y ≡ true = simp (to_z-of_z f, to_z-of_z g) at c.if-up.true in
-    rw (get_d_any s.network.parents s.x 255 0 (omega arith), get_d_any s.network.parents s.y 255 0 (omega arith), up)
+    rw (get_or-any s.network.parents s.x 255 0 (omega arith), get_or-any s.network.parents s.y 255 0 (omega arith), up)
 
 pub returns-then-down : goal.returns-then-down
 unfolding power_of
@@ -42,7 +42,7 @@ returns-then-down c =
     let n : length s.network.parents ≡ 8 = search rules in
     let up : goes_up s.network.parents s.flows.now s.x s.y ≡ false = simp (to_z-of_z f, to_z-of_z g) at c.if-up.false in
     let down : goes_down s.network.parents s.flows.now s.x s.y ≡ true = simp (to_z-of_z f, to_z-of_z g) at c.if-down.true in
-    rw (get_d_any s.network.parents s.x 255 0 (omega arith), get_d_any s.network.parents s.y 255 0 (omega arith), up, down)
+    rw (get_or-any s.network.parents s.x 255 0 (omega arith), get_or-any s.network.parents s.y 255 0 (omega arith), up, down)
 
 pub returns-else-down : goal.returns-else-down
 unfolding power_of
@@ -53,4 +53,4 @@ returns-else-down c =
     let n : length s.network.parents ≡ 8 = search rules in
     let up : goes_up s.network.parents s.flows.now s.x s.y ≡ false = simp (to_z-of_z f, to_z-of_z g) at c.if-up.false in
     let down : goes_down s.network.parents s.flows.now s.x s.y ≡ false = simp (to_z-of_z f, to_z-of_z g) at c.if-down.false in
-    rw (get_d_any s.network.parents s.x 255 0 (omega arith), get_d_any s.network.parents s.y 255 0 (omega arith), up, down) c.extra_of.ensures
+    rw (get_or-any s.network.parents s.x 255 0 (omega arith), get_or-any s.network.parents s.y 255 0 (omega arith), up, down) c.extra_of.ensures
