@@ -1,6 +1,7 @@
 -- `entries::checking::enter_verdict` meets its contract, by a law for each way out. Assumes nothing.
 use mathlib.Core.Path.{◌≡◌, refl, sym, ap, ◌∙◌}
 use Prim.Native.Nat.{ℕ, ◌+◌, ◌≤◌}
+use native.Mathlib.Omega.{arith}
 use lib.ListN.{length}
 use mathlib.Core.Bool.{true}
 use borrow.Author.Tests.{lt-leb, le-leb}
@@ -29,7 +30,7 @@ returns-then-book-ge10000000 c =
     let ok : valid c.args.book ≡ true = sym c.valid.ensures ∙ c.if-not-valid.false in
     let fit : lengths_ok (shape_of c.args.book) c.args.ring (entry) c.args.table ≡ true = sym c.lengths_ok.ensures ∙ c.if-not-lengths_ok.false in
     let a = c.args in
-    enter-12 a.book a.ring a.number (entry) a.table (ok) (fit) c.if-book-ge10000000.true
+    enter-12 a.book a.ring a.number (entry) a.table (ok) (fit) (omega arith)
 
 pub returns-then-number-book : goal.returns-then-number-book
 returns-then-number-book c =
@@ -37,7 +38,7 @@ returns-then-number-book c =
     let ok : valid c.args.book ≡ true = sym c.valid.ensures ∙ c.if-not-valid.false in
     let fit : lengths_ok (shape_of c.args.book) c.args.ring (entry) c.args.table ≡ true = sym c.lengths_ok.ensures ∙ c.if-not-lengths_ok.false in
     let a = c.args in
-    enter-13 a.book a.ring a.number (entry) a.table (ok) (fit) c.if-book-ge10000000.false c.if-number-book.true
+    enter-13 a.book a.ring a.number (entry) a.table (ok) (fit) (omega arith) c.if-number-book.true
 
 pub returns-then-not-kind : goal.returns-then-not-kind
 returns-then-not-kind c =
@@ -45,7 +46,7 @@ returns-then-not-kind c =
     let ok : valid c.args.book ≡ true = sym c.valid.ensures ∙ c.if-not-valid.false in
     let fit : lengths_ok (shape_of c.args.book) c.args.ring (entry) c.args.table ≡ true = sym c.lengths_ok.ensures ∙ c.if-not-lengths_ok.false in
     let a = c.args in
-    enter-14 a.book a.ring a.number (entry) a.table (ok) (fit) c.if-book-ge10000000.false c.if-number-book.false (lt-leb _ _ c.if-not-kind.true)
+    enter-14 a.book a.ring a.number (entry) a.table (ok) (fit) (omega arith) c.if-number-book.false (lt-leb _ _ c.if-not-kind.true)
 
 pub slices_verdict-requires : goal.slices_verdict-requires
 slices_verdict-requires c =
@@ -66,4 +67,4 @@ returns c =
     let book = a.book in
     c.slices_verdict.ensures
     ∙ ap (λ (n : ℕ). slices_verdict n book.regions (markets_of book.services) book.parents a.prices.now a.marked.now a.factors.now) q.4
-    ∙ enter-more a.book a.ring a.number (entry) a.table (ok) (fit) c.if-book-ge10000000.false c.if-number-book.false (le-leb _ _ c.if-not-kind.false)
+    ∙ enter-more a.book a.ring a.number (entry) a.table (ok) (fit) (omega arith) c.if-number-book.false (le-leb _ _ c.if-not-kind.false)
