@@ -40,11 +40,12 @@ loop-r-preserved c =
     let l = c.loop-r in
     let v = valid-is a.book c.requires.valid in
     let o = offered a.prices.now a.marked.now in
-    elim c.if-marked-r-eq0.branch [
+    let j = c.if-marked-r-eq0 in
+    elim j.branch [
       | then-marked-r-eq0 w ↦
           let p = turned a.book v a.ring.now o l.r c.loop-r-test.true c.requires.ring-size _ _ _ _ l.invariant.2 l.invariant.3 w.if-marked-r-eq0.true (w.ring-is ∙ w.take_region.ensures.ring_after) (w.sums-is ∙ w.take_region.ensures.sums_after) in
-          (omega arith, c.if-marked-r-eq0.auto.ring ∙ l.invariant.1, p.0, p.1)
+          (omega arith, j.auto.ring ∙ l.invariant.1, p.0, p.1)
       | else-marked-r-eq0 w ↦
           let p = passed a.book a.ring.now o l.r _ _ _ _ l.invariant.2 l.invariant.3 w.if-marked-r-eq0.false w.ring-is w.sums-is in
-          (omega arith, c.if-marked-r-eq0.auto.ring ∙ l.invariant.1, p.0, p.1)
+          (omega arith, j.auto.ring ∙ l.invariant.1, p.0, p.1)
     ]
