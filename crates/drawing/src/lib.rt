@@ -7,7 +7,7 @@ ghost use Rattle.drawing.specs.Drawing.{next_seed, energy_of, price_of, flow_of,
 pub fn next_seed(seed: u32) -> u32
     ensures { result ≡ next_seed seed }
 {
-    ((seed as u64 * 1664525 + 1013904223) % 4294967296) as u32
+    seed.wrapping_mul(1664525).wrapping_add(1013904223)
 }
 
 fn energy_of(d: u32) -> i32
@@ -24,10 +24,10 @@ fn energy_of(d: u32) -> i32
 pub fn price_of(market: usize, d: u32) -> i32
     ensures { result ≡ price_of market d }
 {
-    match market {
-        0 => energy_of(d),
-        1..=10 => (d % 3000) as i32,
-        _ => (d % 3000) as i32,
+    if market == 0 {
+        energy_of(d)
+    } else {
+        (d % 3000) as i32
     }
 }
 

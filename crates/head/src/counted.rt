@@ -17,11 +17,8 @@ fn sum_counts(counts: [u16; 8]) -> usize
     ensures { (result ≡ sum_from 8 0 (λ i. get_or counts i 0)) × (result ≤ 524280) }
 {
     let mut sum: usize = 0;
-    let mut i: usize = 0;
-    while i < 8 {
-        let count = counts[i] as usize;
-        sum += count;
-        i += 1;
+    for count in counts {
+        sum += count as usize;
     }
     sum
 }

@@ -1,14 +1,15 @@
-// The head of an image: its fields one after the other, written and read. The loops read lent arrays, never the whole book.
-ghost use Rattle.std.specs.Prelude.{◌≡◌, true, ◌++◌, ◌+◌, ◌*◌, ◌≤◌, ◌<◌, length, get_or};
+// The head of an image: its fields one after the other, written and read.
+ghost use Rattle.std.specs.Prelude.{◌≡◌, true, ◌+◌, ◌*◌, ◌≤◌, ◌<◌, length, get_or, replicate};
 ghost use Rattle.std.proofs.lemmas.List.Edits.{sets};
 ghost use Rattle.laws.specs.Lists.{tabulate};
 ghost use Rattle.laws.specs.Bytes.{number_at, encode};
-ghost use Rattle.head.specs.Layout.{widths, firsts, seconds, values, next_of, head_from};
+ghost use Rattle.head.specs.Layout.{widths, values, next_of, head_from};
 ghost use Rattle.head.specs.Layout.{kind_of, head_size, length_of, tail_widths, tail, front_of, is_second, end_in};
 
 use crate::counted::how_many;
 use book::record::Book;
-use codec::{bits32, bits64, get, get_eight, get_u8, get_u16, get_u32, get_word, put, signed64};
+use codec::{bits32, bits64, get, get_array, get_u8, get_u16, get_u32, get_word, put, signed64};
+use std::marker::Model;
 
 // Where the prices of an image start, of kind 2 if `second`.
 pub fn head_size(second: bool) -> usize
@@ -24,30 +25,6 @@ pub fn image_length(second: bool, book: Book) -> usize
     head_size(second) + 4 * how_many(book)
 }
 
-// How many bytes a field takes: those before the parents, and those between the parents and the counts, by a table.
-const FIRST_WIDTHS: [usize; 7] = [4, 2, 1, 1, 2, 1, 1];
-
-const SECOND_WIDTHS: [usize; 6] = [4, 2, 2, 8, 4, 4];
-
-fn width(j: usize) -> usize
-    requires { j < 117 }
-    ensures { result ≡ get_or widths j 0 }
-{
-    if j < 7 {
-        return FIRST_WIDTHS[j];
-    }
-    if j < 15 {
-        return 1;
-    }
-    if j < 21 {
-        return SECOND_WIDTHS[j - 15];
-    }
-    if j < 29 {
-        return 2;
-    }
-    1
-}
-
 // The number of a kind.
 fn kind_of(second: bool) -> u64
     ensures { result ≡ kind_of second }
@@ -55,82 +32,37 @@ fn kind_of(second: bool) -> u64
     if second { 2 } else { 1 }
 }
 
-// The numbers before the parents, of an image of `size` bytes, and those between the parents and the counts.
-fn first_fields(book: Book, size: u32, second: bool) -> [u64; 7]
-    ensures { result ≡ firsts size (kind_of second) book }
+fn put_counts(counts: [u16; 8], buffer: &mut [u8])
+    requires { 60 ≤ length buffer.old }
+    ensures { buffer.new ≡ sets buffer.old 44 (encode (replicate 8 2) counts) }
 {
-    [
-        size as u64,
-        kind_of(second),
-        book.regions as u64,
-        book.services as u64,
-        book.window as u64,
-        book.halves as u64,
-        0,
-    ]
+    for i in 0..8 {
+        put(buffer, 44 + 2 * i, 2, counts[i] as u64);
+    }
 }
 
-fn second_fields(book: Book) -> [u64; 6]
-    ensures { result ≡ seconds book }
-{
-    [
-        book.entries as u64,
-        book.position as u64,
-        0,
-        bits64(book.threshold),
-        bits32(book.cap) as u64,
-        bits32(book.floor) as u64,
-    ]
-}
-
-// The number in field `j`.
-fn field<'a>(
-    first: &'a [u64],
-    parents: &'a [u8],
-    second: &'a [u64],
-    counts: &'a [u16],
-    marks: &'a [u8],
-    j: usize,
-) -> u64
-    requires first_len { (length first.now ≡ 7) × (length parents.now ≡ 8) × (length second.now ≡ 6) × (length counts.now ≡ 8) × (length marks.now ≡ 88) }
-    requires j_bound { j < 117 }
-    ensures { result ≡ get_or (first.now ++ (parents.now ++ (second.now ++ (counts.now ++ marks.now)))) j 0 }
-{
-    if j < 7 {
-        return first[j];
-    }
-    if j < 15 {
-        return parents[j - 7] as u64;
-    }
-    if j < 21 {
-        return second[j - 15];
-    }
-    if j < 29 {
-        return counts[j - 21] as u64;
-    }
-    marks[j - 29] as u64
-}
-
-// The head of an image of `size` bytes, of kind 2 if `second`.
+// The head of an image of `size` bytes, of kind 2 if `second`, one field after the other.
 fn put_head(book: Book, size: u32, second: bool, buffer: &mut [u8])
     requires { 148 ≤ length buffer.old }
     ensures buffer_after { buffer.new ≡ sets buffer.old 0 (encode widths (values size (kind_of second) book)) }
     ensures book_len { length (encode widths (values size (kind_of second) book)) ≡ 148 }
 {
-    let parents = book.parents;
-    let counts = book.counts;
-    let marks = book.marks;
-    let first = first_fields(book, size, second);
-    let middle = second_fields(book);
-    let mut at: usize = 0;
-    let mut j: usize = 0;
-    while j < 117 {
-        let w = width(j);
-        let x = field(&first, &parents, &middle, &counts, &marks, j);
-        put(buffer, at, w, x);
-        at += w;
-        j += 1;
-    }
+    put(buffer, 0, 4, size as u64);
+    put(buffer, 4, 2, kind_of(second));
+    put(buffer, 6, 1, book.regions as u64);
+    put(buffer, 7, 1, book.services as u64);
+    put(buffer, 8, 2, book.window as u64);
+    put(buffer, 10, 1, book.halves as u64);
+    put(buffer, 11, 1, 0);
+    buffer[12..20].copy_from_slice(&book.parents);
+    put(buffer, 20, 4, book.entries as u64);
+    put(buffer, 24, 2, book.position as u64);
+    put(buffer, 26, 2, 0);
+    put(buffer, 28, 8, bits64(book.threshold));
+    put(buffer, 36, 4, bits32(book.cap) as u64);
+    put(buffer, 40, 4, bits32(book.floor) as u64);
+    put_counts(book.counts, buffer);
+    buffer[60..148].copy_from_slice(&book.marks);
 }
 
 // What kind 2 has between the head and the prices: the ends, two zeros and four bytes that are kept.
@@ -156,32 +88,6 @@ pub fn put_front(second: bool, book: Book, size: u32, buffer: &mut [u8])
     }
 }
 
-fn read_counts(bytes: &[u8]) -> [u16; 8]
-    requires { 148 ≤ length bytes.now }
-    ensures { result ≡ tabulate 8 (λ i. number_at bytes.now (44 + 2 * i) 2) }
-{
-    let mut a = [0u16; 8];
-    let mut i: usize = 0;
-    while i < 8 {
-        a[i] = get_u16(bytes, 44 + 2 * i);
-        i += 1;
-    }
-    a
-}
-
-fn read_marks(bytes: &[u8]) -> [u8; 88]
-    requires { 148 ≤ length bytes.now }
-    ensures { result ≡ tabulate 88 (λ i. number_at bytes.now (60 + i) 1) }
-{
-    let mut a = [0u8; 88];
-    let mut i: usize = 0;
-    while i < 88 {
-        a[i] = get_u8(bytes, 60 + i);
-        i += 1;
-    }
-    a
-}
-
 // The next place of a window with so many prices, the oldest at its first place.
 fn next_place(window: u16, count: u16) -> u16
     ensures { result ≡ next_of window count }
@@ -192,16 +98,15 @@ fn next_place(window: u16, count: u16) -> u16
 fn next_places(window: u16, counts: [u16; 8]) -> [u16; 8]
     ensures { result ≡ tabulate 8 (λ i. next_of window (get_or counts i 0)) }
 {
-    let mut a = [0u16; 8];
-    let mut i: usize = 0;
-    while i < 8 {
-        a[i] = next_place(window, counts[i]);
-        i += 1;
+    // Kept: what std promises of `map` does not carry over that the closure still holds this window at each call.
+    let mut nexts = [0u16; 8];
+    for i in 0..8 {
+        nexts[i] = next_place(window, counts[i]);
     }
-    a
+    nexts
 }
 
-// Whether the kind is 2.
+// Whether the kind is 2, of bytes that may end before the prices of kind 2.
 pub fn is_second(bytes: &[u8]) -> bool
     requires { 148 ≤ length bytes.now }
     ensures { result ≡ is_second bytes.now }
@@ -217,45 +122,78 @@ pub fn prices_from(bytes: &[u8]) -> usize
     head_size(is_second(bytes))
 }
 
-// The end of the additional link at a place of the tail; kind 1 has no tail, and none of the ends.
-pub fn end_in(bytes: &[u8], at: usize) -> u8
-    requires { (148 ≤ length bytes.now) × (is_second bytes.now ≡ true → at < length bytes.now) }
-    ensures { result ≡ end_in bytes.now at }
-{
-    if is_second(bytes) {
-        return get_u8(bytes, at);
-    }
-    255
+// An image whose head stands whole, with the tail that its kind has.
+#[derive(Drop)]
+pub struct Head<'a> {
+    pub bytes: &'a [u8],
 }
 
-// The book that an image's head says, before its sums are added up.
-pub fn head_from(bytes: &[u8]) -> Book
-    requires { (148 ≤ length bytes.now) × (is_second bytes.now ≡ true → 156 ≤ length bytes.now) }
-    ensures { result ≡ head_from bytes.now }
-{
-    let window = get_u16(bytes, 8);
-    let counts = read_counts(bytes);
-    let nexts = next_places(window, counts);
-    let parents = get_eight(bytes, 12);
-    let marks = read_marks(bytes);
-    let from = end_in(bytes, 148);
-    let to = end_in(bytes, 149);
-    Book {
-        regions: get_u8(bytes, 6),
-        services: get_u8(bytes, 7),
-        window,
-        halves: get_u8(bytes, 10),
-        parents,
-        from,
-        to,
-        threshold: signed64(get(bytes, 28, 8)),
-        cap: get_word(bytes, 36),
-        floor: get_word(bytes, 40),
-        entries: get_u32(bytes, 20),
-        position: get_u16(bytes, 24),
-        counts,
-        nexts,
-        sums: [0; 88],
-        marks,
+impl<'a> Model for Head<'a> {
+    ghost use Rattle.std.specs.Prelude.{List, ℕ};
+    ghost use Rattle.head.specs.Working.{Whole};
+
+    ghost Value = { List ℕ };
+
+    ghost view = { λ h. h.bytes.now };
+
+    ghost invariant = { λ h. Whole h.bytes.now };
+}
+
+impl<'a> Head<'a> {
+    // Whether the kind is 2.
+    pub fn is_second(&self) -> bool
+        ensures { result ≡ is_second self.now }
+    {
+        is_second(self.bytes)
+    }
+
+    // Where the prices of the image start, by its kind.
+    pub fn prices_from(&self) -> usize
+        ensures { result ≡ head_size (is_second self.now) }
+    {
+        prices_from(self.bytes)
+    }
+
+    // The end of the additional link at a place of the tail; kind 1 has no tail, and none of the ends.
+    fn end_in(&self, at: usize) -> u8
+        requires { at < 156 }
+        ensures { result ≡ end_in self.now at }
+    {
+        if self.is_second() {
+            return get_u8(self.bytes, at);
+        }
+        255
+    }
+
+    // The book that the head says, before its sums are added up.
+    pub fn book(&self) -> Book
+        ensures { result ≡ head_from self.now }
+    {
+        let bytes = self.bytes;
+        let window = get_u16(bytes, 8);
+        let counts = get_array(bytes, 44);
+        let nexts = next_places(window, counts);
+        let parents = get_array(bytes, 12);
+        let marks = get_array(bytes, 60);
+        let from = self.end_in(148);
+        let to = self.end_in(149);
+        Book {
+            regions: get_u8(bytes, 6),
+            services: get_u8(bytes, 7),
+            window,
+            halves: get_u8(bytes, 10),
+            parents,
+            from,
+            to,
+            threshold: signed64(get(bytes, 28, 8)),
+            cap: get_word(bytes, 36),
+            floor: get_word(bytes, 40),
+            entries: get_u32(bytes, 20),
+            position: get_u16(bytes, 24),
+            counts,
+            nexts,
+            sums: [0; 88],
+            marks,
+        }
     }
 }

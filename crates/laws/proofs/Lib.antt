@@ -11,3 +11,4 @@ pub mod Tables
 pub mod Joined
 pub mod Words
 pub mod Rows
+pub mod Sames

@@ -1,4 +1,4 @@
--- `codec::get` meets its contract. The loop runs downward: x is the number in the bytes from j on. The measure is j. Assumes nothing.
+-- `codec::get` meets its contract. The loop runs downward: x is the number in the bytes from j on. Assumes nothing.
 use mathlib.Core.Path.{refl, ap, ◌∙◌}
 use Prim.Native.Nat.{◌+◌, ◌-◌, ◌^◌, ◌<◌}
 use native.Mathlib.Omega.{arith}

@@ -1,4 +1,4 @@
--- `codec::get_word` meets its contract: four bytes are each below 256, so their sum fits, and it is their number. Assumes nothing.
+-- `codec::get_word` meets its contract: the sum of the four bytes, each by its worth, is their number. Assumes nothing.
 use mathlib.Core.Path.{ap, ◌∙◌}
 use mir.Syntax.{w32}
 use mir.Val.{SFits, to_z}
@@ -9,5 +9,5 @@ use Rattle.codec.proofs.get_word.Goals as goal
 
 pub returns : goal.returns
 returns c =
-    let f : SFits w32 c.signed32.result = search rules in
-    to_z-of_z f ∙ c.signed32.ensures ∙ ap (to_z w32) (word_number _ _ (search rules))
+    let f : SFits w32 c.from_le_bytes.result = search rules in
+    to_z-of_z f ∙ c.from_le_bytes.ensures ∙ ap (to_z w32) (word_number _ _ (search rules))

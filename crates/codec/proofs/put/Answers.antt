@@ -1,5 +1,5 @@
 -- `codec::put` meets its contract. The loop's invariant: what is still to go, of what is left of x, makes of the slice what the whole does.
--- The measure is what is left of the width. Assumes nothing.
+-- Assumes nothing.
 use native.Mathlib.Omega.{arith}
 use lib.ListN.{length-set}
 use Rattle.codec.proofs.Turns.{put_step, put-done}

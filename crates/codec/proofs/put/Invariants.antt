@@ -1,5 +1,5 @@
 -- `codec::put` meets its contract. The loop's invariant: what is still to go, of what is left of x, makes of the slice what the whole does.
--- The measure is what is left of the width. Assumes nothing.
+-- Assumes nothing.
 use mathlib.Core.Path.{◌≡◌}
 use Prim.Native.Nat.{◌+◌, ◌-◌, ◌≤◌}
 use lib.ListN.{length}
@@ -9,6 +9,3 @@ use Rattle.codec.proofs.put.Given as goal
 
 abbrev pub invariant-loop-j : goal.invariant-loop-j
 invariant-loop-j l = (l.j ≤ l.width) × (length l.bytes ≡ length l.initial.bytes) × (sets l.bytes (l.at + l.j) (le (l.width - l.j) l.rest) ≡ sets l.initial.bytes l.at (le l.width l.x))
-
-abbrev pub decreases-loop-j : goal.decreases-loop-j
-decreases-loop-j l = l.width - l.j

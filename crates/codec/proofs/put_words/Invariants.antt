@@ -10,6 +10,3 @@ use Rattle.codec.proofs.put_words.Given as goal
 
 abbrev pub invariant-loop-i : goal.invariant-loop-i
 invariant-loop-i l = (l.i ≤ l.n) × (length l.bytes ≡ length l.initial.bytes) × (sets l.bytes (l.at + 4 * l.i) (words (run (l.n - l.i) l.i (λ k. get_or l.numbers (l.from + k) (pos 0)))) ≡ sets l.initial.bytes l.at (words (places_of l.numbers l.from l.n)))
-
-abbrev pub decreases-loop-i : goal.decreases-loop-i
-decreases-loop-i l = l.n - l.i

@@ -8,11 +8,13 @@ use borrow.Author.Rules.{rules}
 use Rattle.head.proofs.Counts.{sum_step, sum_done}
 use Rattle.head.proofs.counted.sum_counts.Goals as goal
 
-pub loop-i-preserved : goal.loop-i-preserved
-loop-i-preserved c =
-    let small : get_or c.args.counts c.loop-i.i 0 ≤ 65535 = (let f : Fits w16 (get_or c.args.counts c.loop-i.i 0) = search rules in omega (arith, f.fits)) in
-    (omega arith, omega (arith, small), omega (arith, sum_step (λ k. get_or c.args.counts k 0) 8 c.loop-i.i (omega arith)))
+pub loop-count-preserved : goal.loop-count-preserved
+loop-count-preserved c =
+    let i = c.loop-count.count-index in
+    let small : get_or c.args.counts i 0 ≤ 65535 = (let f : Fits w16 (get_or c.args.counts i 0) = search rules in omega (arith, f.fits)) in
+    (omega arith, omega (arith, small), omega (arith, sum_step (λ k. get_or c.args.counts k 0) 8 i (omega arith)))
 
 pub returns : goal.returns
 returns c =
-    (sum_done (λ k. get_or c.args.counts k 0) 8 c.loop-i.i _ _ (omega arith) c.loop-i.invariant.2, omega arith)
+    let i = c.loop-count.count-index in
+    (sum_done (λ k. get_or c.args.counts k 0) 8 i _ _ (omega arith) c.loop-count.invariant.2, omega arith)

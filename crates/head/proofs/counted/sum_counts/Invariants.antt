@@ -5,8 +5,7 @@ use lib.ListN.{get_or}
 use Rattle.laws.specs.Lists.{sum_from}
 use Rattle.head.proofs.counted.sum_counts.Given as goal
 
-abbrev pub invariant-loop-i : goal.invariant-loop-i
-invariant-loop-i l = (l.i ≤ 8) × (l.sum ≤ 65535 * l.i) × (l.sum + sum_from (8 - l.i) l.i (λ k. get_or l.counts k 0) ≡ sum_from 8 0 (λ k. get_or l.counts k 0))
-
-abbrev pub decreases-loop-i : goal.decreases-loop-i
-decreases-loop-i l = 8 - l.i
+abbrev pub invariant-loop-count : goal.invariant-loop-count
+invariant-loop-count l =
+    let i = l.count-index in
+    (i ≤ 8) × (l.sum ≤ 65535 * i) × (l.sum + sum_from (8 - i) i (λ k. get_or l.fn.counts k 0) ≡ sum_from 8 0 (λ k. get_or l.fn.counts k 0))
