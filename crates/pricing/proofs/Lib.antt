@@ -1,3 +1,4 @@
+pub mod Holdings
 pub mod Roundings
 pub mod Carries
 pub mod Passings

@@ -1,9 +1,8 @@
 -- The indexed amount of a year, in whole dollars. Assumes nothing.
-use Rattle.std.specs.Prelude.{Bool, ◌&&◌, ℕ, ◌+◌, ◌*◌, max, leb}
+use Rattle.std.specs.Prelude.{Bool, ◌&&◌, ℕ, ◌+◌, ◌*◌, max, leb, Result, Ok, Err}
 use Rattle.laws.specs.Base.{pick}
 use Rattle.pricing.specs.Rounding.{nearest}
-use Rattle.pricing.specs.declared.indexing.Answer.{Answer}
-use Rattle.pricing.specs.declared.indexing.Answer.TheVariants.{Dollars, OutOfRange}
+use Rattle.pricing.specs.declared.indexing.OutOfRange.{OutOfRange}
 use Rattle.pricing.specs.declared.indexing.Quarters.{Quarters}
 
 -- a refusal's number, or 0 and the dollars: "answer zeros beside number and place"
@@ -12,9 +11,9 @@ pub record Outcome : Type 0 where
   pub dollars : ℕ
 
 -- the paper's number and value for each case
-abbrev pub answered : Answer → Outcome
-answered (Dollars d) = record { number = 0; dollars = d }
-answered OutOfRange = record { number = 30; dollars = 0 }
+abbrev pub answered : Result ℕ OutOfRange → Outcome
+answered (Ok d) = record { number = 0; dollars = d }
+answered (Err _) = record { number = 30; dollars = 0 }
 
 abbrev pub between : ℕ → ℕ → ℕ → Bool
 between low high x = leb low x && leb x high

@@ -7,14 +7,14 @@ ghost use Rattle.pricing.specs.Holding.{held, is_energy, lowest, in_range, limit
 pub fn at_most(x: i32, limit: i32) -> i32
     ensures { result ≡ min_z x limit }
 {
-    if x <= limit { x } else { limit }
+    x.min(limit)
 }
 
 // The larger of a limit and a price.
 pub fn at_least(limit: i32, x: i32) -> i32
     ensures { result ≡ max_z limit x }
 {
-    if limit <= x { x } else { limit }
+    limit.max(x)
 }
 
 // A price held within two limits.
@@ -25,6 +25,7 @@ pub fn held(x: i32, low: i32, high: i32) -> i32
 }
 
 // The lower of the limits that apply to a market: a service has no floor but 0.
+// Kept: document 01 asks for a match on the market with a range case.
 pub fn lowest(market: usize, floor: i32) -> i32
     ensures { result ≡ lowest (is_energy market) floor }
 {

@@ -1,15 +1,12 @@
 // The indexed amount of a year, in whole dollars.
-ghost use Rattle.std.specs.Prelude.{◌≡◌, Bool, ℕ, ◌≤◌, max};
+ghost use Rattle.std.specs.Prelude.{◌≡◌, Bool, ℕ, ◌≤◌};
 ghost use Rattle.pricing.specs.Indexing.{between, quarters_ok, sum, index_ok, indexed, answered};
 
 use crate::rounding::nearest;
 
-// The dollars, or refusal 30.
+// Refusal 30, the one that there is.
 #[derive(Clone, Copy)]
-pub enum Answer {
-    Dollars(u64),
-    OutOfRange,
-}
+pub struct OutOfRange;
 
 // The four quarters of a year, in tenths.
 #[derive(Clone, Copy)]
@@ -47,19 +44,13 @@ fn sum(y: Quarters) -> u64
     y.q1 as u64 + y.q2 as u64 + y.q3 as u64 + y.q4 as u64
 }
 
-fn larger(a: u64, b: u64) -> u64
-    ensures { result ≡ max a b }
-{
-    if a <= b { b } else { a }
-}
-
 // The amount by the quarters of year c over those of year b, to the nearest 100 dollars, and never below last year's.
-pub fn indexed(amount: u64, c: Quarters, b: Quarters, last: u64) -> Answer
+pub fn indexed(amount: u64, c: Quarters, b: Quarters, last: u64) -> Result<u64, OutOfRange>
     ensures { answered result ≡ indexed amount c b last }
 {
     if !index_ok(amount, c, b, last) {
-        return Answer::OutOfRange;
+        return Err(OutOfRange);
     }
     let hundreds = nearest(amount * sum(c), 100 * sum(b));
-    Answer::Dollars(larger(last, 100 * hundreds))
+    Ok(last.max(100 * hundreds))
 }

@@ -1,3 +1,4 @@
+pub mod Chains
 pub mod Runs
 pub mod Schedules
 pub mod Cases

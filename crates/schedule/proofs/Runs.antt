@@ -1,6 +1,6 @@
 -- The running totals and counts: before the first day, half-hour by half-hour of a day, and day by day. Assumes nothing.
 use mathlib.Core.Path.{◌≡◌, refl, sym, ap, ◌∙◌}
-use mathlib.Core.Bool.{Bool, true, false, not}
+use mathlib.Core.Bool.{Bool, true, not}
 use mathlib.Core.List.{List, [], append-nil}
 use mathlib.Core.Logic.{⊎_elim}
 use Prim.Native.Nat.{ℕ, ◌+◌, ◌*◌, ◌/◌, ◌%◌, ◌≤◌, ◌<◌}
@@ -14,12 +14,14 @@ use lib.ListN.{length, get_or, set, replicate, length-set, get_or-replicate, get
 use lib.Seq.{ext_get_or, get_or-set_same, get_or-set_other}
 use Rattle.laws.specs.Base.{pick}
 use Rattle.laws.specs.Lists.{tabulate, places_of, all_below, first_below, total}
-use Rattle.laws.proofs.Lists.{length_run, get_or-tabulate, tabulate-same, tabulate-const, all_same, first_below-same, first_below-all, first_below-some, first_below-most, first_below-split, flat-div, flat-mod}
+use Rattle.laws.proofs.Lists.{length_run, get_or-tabulate, tabulate-same, tabulate-const, all_same, first_below-same, first_below-all, first_below-split, flat-div, flat-mod}
 use Rattle.laws.proofs.Tests.{by-test, lt-or-ge}
 use Rattle.pricing.specs.Holding.{in_range}
 use Rattle.schedule.specs.Schedule.{prices_of}
 use Rattle.schedule.specs.Running.{so_far, totals_of, counts_of, bad_in}
-use Rattle.schedule.specs.Working.{Room, all_in_range, first_out, bad_with}
+use Rattle.std.specs.Prelude.{Some, None}
+use Rattle.std.specs.Option.{option_or}
+use Rattle.schedule.specs.Working.{Room, below, found_in, all_in_range, bad_with}
 
 -- the days that half-hour j has gone through when the half-hours below h of day d have been
 abbrev pub during : ℕ → ℕ → ℕ → ℕ
@@ -126,51 +128,47 @@ room-set n k l v all p q i =
     (λ t. rw (get_or-set_other l k i v (pos 0) (eqb-false i k t)) (all i))
 
 -- ---- the first bad price, half-hour by half-hour
-module _ (all : Bool) (b j from end : ℕ) (room : from + 6 ≤ end) where
-  -- b is the first before `from`, j which of the six is the first, or 6
-  abbrev was : ℕ
-  was = pick (ltb b from) b end
+-- b is the first before `from`, j which of the six is the first, or 6
+next-bad : (all : Bool) (b j from : ℕ) → (all ≡ true → j ≡ 6)
+    → pick all (below from b) (option_or (below from b) (below (from + 6) (from + j))) ≡ below (from + 6) (pick (ltb b from) b (from + j))
+next-bad all b j from whole =
+    ⊎_elim
+    (λ (h : b < from). rw (lt-ltb b from h) (rw (lt-ltb b (from + 6) (omega arith)) (by-test all (λ e. rw e) (λ e. rw e))))
+    (λ (h : from ≤ b). rw (le-ltb b from h)
+    (by-test all
+    (λ e. let z = whole e in rw (e, le-ltb (from + j) (from + 6) (omega arith)))
+    (λ e. rw e)))
+    (lt-or-ge b from)
 
-  abbrev now : ℕ
-  now = pick (ltb b from) b (from + j)
+-- with the six from there on
+pub bad-step : (energy : Bool) (prices : List ℤ) (from : ℕ) → bad_with energy (places_of prices from 6) (found_in energy prices from) from ≡ found_in energy prices (from + 6)
+bad-step energy prices from =
+    rw (in-range, first_out-is, first_below-split from 6 (λ k. not (in_range energy (get_or prices k (pos 0)))))
+    (next-bad (all_below 6 there) (bad_in energy prices from) (first_below 6 (λ j. not (there j))) from (first_below-all 6 there))
+  where
+    there : ℕ → Bool
+    there j = in_range energy (get_or prices (from + j) (pos 0))
 
-  next-bad : (all ≡ true → j ≡ 6) → (all ≡ false → j < 6) → pick all was (pick (ltb was from) was (from + j)) ≡ pick (ltb now (from + 6)) now end
-  next-bad whole part =
-      ⊎_elim
-      (λ (h : b < from). rw (lt-ltb b from h) (rw (lt-ltb b from h, lt-ltb b (from + 6) (omega arith)) (by-test all (λ e. rw e) (λ e. rw e))))
-      (λ (h : from ≤ b). rw (le-ltb b from h)
-      (by-test all
-      (λ e. let z = whole e in rw (e, le-ltb (from + j) (from + 6) (omega arith)))
-      (λ e. let z = part e in rw (e, le-ltb end from (omega arith), lt-ltb (from + j) (from + 6) (omega arith)))))
-      (lt-or-ge b from)
+    at : (j : ℕ) → j < 6 → in_range energy (get_or (places_of prices from 6) j (pos 0)) ≡ there j
+    at j h = ap (in_range energy) (get_or-tabulate (λ i. get_or prices (from + i) (pos 0)) 6 j (pos 0) h)
 
-module _ (energy : Bool) (prices : List ℤ) where
-  -- the first bad price before `from`, or else the day's end
-  abbrev pub bad_before : ℕ → ℕ → ℕ
-  bad_before from end = pick (ltb (bad_in energy prices from) from) (bad_in energy prices from) end
+    in-range : all_in_range energy (places_of prices from 6) ≡ all_below 6 there
+    in-range = all_same 6 (λ j. in_range energy (get_or (places_of prices from 6) j (pos 0))) there at
 
-  -- with the six from there on
-  pub bad-step : (from end : ℕ) → from + 6 ≤ end → bad_with energy (places_of prices from 6) (bad_before from end) from ≡ bad_before (from + 6) end
-  bad-step from end room =
-      rw (in-range, first_out-is, first_below-split from 6 (λ k. not (in_range energy (get_or prices k (pos 0)))))
-      (next-bad (all_below 6 there) (bad_in energy prices from) (first_below 6 (λ j. not (there j))) from end room (first_below-all 6 there) (first_below-some 6 there))
-    where
-      there : ℕ → Bool
-      there j = in_range energy (get_or prices (from + j) (pos 0))
+    first_out-is : first_below 6 (λ j. not (in_range energy (get_or (places_of prices from 6) j (pos 0)))) ≡ first_below 6 (λ j. not (there j))
+    first_out-is = first_below-same 6 (λ j. not (in_range energy (get_or (places_of prices from 6) j (pos 0)))) (λ j. not (there j)) (λ j h. ap not (at j h))
 
-      at : (j : ℕ) → j < 6 → in_range energy (get_or (places_of prices from 6) j (pos 0)) ≡ there j
-      at j h = ap (in_range energy) (get_or-tabulate (λ i. get_or prices (from + i) (pos 0)) 6 j (pos 0) h)
+-- ---- what a place of the first n says, and none
+pub some-is : (n k p : ℕ) → below n k ≡ Some p → (k < n) × (p ≡ k)
+some-is n k p e =
+    ⊎_elim
+    (λ (h : k < n). let q : Some k ≡ Some p = rw (lt-ltb k n h) at e in (h, cc))
+    (λ (h : n ≤ k). let q : None ≡ Some p = rw (le-ltb k n h) at e in cc)
+    (lt-or-ge k n)
 
-      in-range : all_in_range energy (places_of prices from 6) ≡ all_below 6 there
-      in-range = all_same 6 (λ j. in_range energy (get_or (places_of prices from 6) j (pos 0))) there at
-
-      first_out-is : first_out energy (places_of prices from 6) ≡ first_below 6 (λ j. not (there j))
-      first_out-is = first_below-same 6 (λ j. not (in_range energy (get_or (places_of prices from 6) j (pos 0)))) (λ j. not (there j)) (λ j h. ap not (at j h))
-
-  -- at the day's end it is that of the prices so far
-  pub bad-done : (end : ℕ) → bad_before end end ≡ bad_in energy prices end
-  bad-done end =
-      ⊎_elim
-      (λ (h : bad_in energy prices end < end). rw (lt-ltb (bad_in energy prices end) end h))
-      (λ (h : end ≤ bad_in energy prices end). rw (le-ltb (bad_in energy prices end) end h) (omega (arith, first_below-most end (λ k. not (in_range energy (get_or prices k (pos 0)))))))
-      (lt-or-ge (bad_in energy prices end) end)
+pub none-is : (n k : ℕ) → below n k ≡ None → n ≤ k
+none-is n k e =
+    ⊎_elim
+    (λ (h : k < n). let q : Some k ≡ None = rw (lt-ltb k n h) at e in cc)
+    (λ (h : n ≤ k). h)
+    (lt-or-ge k n)

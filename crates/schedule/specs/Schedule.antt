@@ -1,21 +1,21 @@
 -- The suspension schedule of one market from four weeks of prices. Assumes nothing.
-use Rattle.std.specs.Prelude.{Bool, not, ◌&&◌, List, [], ◌++◌, ℕ, zero, suc, ◌+◌, ◌*◌, eqb, leb, ltb, ℤ, pos, length, get_or, replicate}
+use Rattle.std.specs.Prelude.{Bool, not, ◌&&◌, List, [], ◌++◌, ℕ, zero, suc, ◌+◌, ◌*◌, eqb, leb, ltb, ℤ, pos, length, get_or, replicate, Result, Ok, Err}
 use Rattle.laws.specs.Base.{pick}
 use Rattle.laws.specs.Lists.{tabulate, all_below, any_below, first_below, total}
-use Rattle.schedule.specs.declared.Making.{Making}
-use Rattle.schedule.specs.declared.Making.TheVariants.{Made, Sizes, Kinds, Limits, Price}
+use Rattle.schedule.specs.declared.Refusal.{Refusal}
+use Rattle.schedule.specs.declared.Refusal.TheVariants.{Sizes, Kinds, Limits, Price}
 use Rattle.schedule.specs.declared.Answer.{Answer}
 use Rattle.pricing.specs.Verdict.{Verdict, accepted, refused, refused_at}
 use Rattle.pricing.specs.Rounding.{rounded}
 use Rattle.pricing.specs.Holding.{held, lowest, in_range, limits_ok}
 
 -- the paper's number and place for each case
-abbrev pub verdict_of : Making → Verdict
-verdict_of Made = accepted
-verdict_of Sizes = refused 31
-verdict_of Kinds = refused 32
-verdict_of Limits = refused 19
-verdict_of (Price place) = refused_at 16 place
+abbrev pub verdict_of : Result (Unit {0}) Refusal → Verdict
+verdict_of (Ok _) = accepted
+verdict_of (Err Sizes) = refused 31
+verdict_of (Err Kinds) = refused 32
+verdict_of (Err Limits) = refused 19
+verdict_of (Err (Price place)) = refused_at 16 place
 
 pub record Outcome : Type 0 where
   pub verdict : Verdict

@@ -1,9 +1,14 @@
 -- What the maker's inner functions are given, and what they make of totals and counts. Assumes nothing.
-use Rattle.std.specs.Prelude.{Bool, not, List, ◌≡◌, ℕ, ◌+◌, ◌*◌, ◌≤◌, ◌<◌, ltb, ℤ, pos, nat_abs, length, get_or}
+use Rattle.std.specs.Prelude.{Bool, not, List, [], ◌≡◌, ℕ, ◌+◌, ◌*◌, ◌≤◌, ◌<◌, ltb, ℤ, pos, nat_abs, length, get_or, Option, Some, None, Result, Ok, Err}
+use Rattle.std.specs.Option.{option_or}
 use Rattle.laws.specs.Base.{pick}
 use Rattle.laws.specs.Lists.{tabulate, puts, all_below, first_below}
 use Rattle.pricing.specs.Rounding.{rounded}
 use Rattle.pricing.specs.Holding.{held, in_range}
+use Rattle.pricing.specs.Verdict.{accepted}
+use Rattle.schedule.specs.declared.Refusal.{Refusal}
+use Rattle.schedule.specs.Schedule.{Outcome, verdict_of, refused_by}
+use Rattle.schedule.specs.Running.{bad_in}
 
 -- what the pass is given: the lengths that 31 asks, and kinds that are 0 or 1
 pub record Days (H : ℕ) (prices : List ℤ) (kinds : List ℕ) : Type 0 where
@@ -20,16 +25,24 @@ Room d totals = (k : ℕ) → nat_abs (get_or totals k (pos 0)) ≤ d * 12884901
 abbrev pub Small : List ℤ → Type 0
 Small six = (j : ℕ) → j < 6 → nat_abs (get_or six j (pos 0)) ≤ 10000000
 
--- whether the six prices of a half-hour are in range, and which is the first that is not, or 6
+-- place k, if it is one of the first n
+abbrev pub below : ℕ → ℕ → Option ℕ
+below n k = pick (ltb k n) (Some k) None
+
+-- of the first n prices the first out of range
+abbrev pub found_in : Bool → List ℤ → ℕ → Option ℕ
+found_in energy prices n = below n (bad_in energy prices n)
+
+-- whether the six prices of a half-hour are in range, and the place of the first that is not, where they begin at `from`
 abbrev pub all_in_range : Bool → List ℤ → Bool
 all_in_range energy six = all_below 6 (λ j. in_range energy (get_or six j (pos 0)))
 
-abbrev pub first_out : Bool → List ℤ → ℕ
-first_out energy six = first_below 6 (λ j. not (in_range energy (get_or six j (pos 0))))
+abbrev pub first_out : Bool → List ℤ → ℕ → Option ℕ
+first_out energy six from = below (from + 6) (from + first_below 6 (λ j. not (in_range energy (get_or six j (pos 0)))))
 
--- the first bad price with those of a half-hour, where `bad` is the first before it or else some place from there on
-abbrev pub bad_with : Bool → List ℤ → ℕ → ℕ → ℕ
-bad_with energy six bad from = pick (all_in_range energy six) bad (pick (ltb bad from) bad (from + first_out energy six))
+-- the first bad price up to a half-hour's end, where `bad` is the first before it
+abbrev pub bad_with : Bool → List ℤ → Option ℕ → ℕ → Option ℕ
+bad_with energy six bad from = pick (all_in_range energy six) bad (option_or bad (first_out energy six from))
 
 -- what is given where a day is counted: a kind's places, and room for six prices more in each
 pub record Countable (H row : ℕ) (counts : List ℕ) : Type 0 where
@@ -58,3 +71,8 @@ held_mean sum count low cap = held (rounded sum count) low cap
 abbrev pub row_by : ℕ → ℤ → ℤ → List ℤ → List ℕ → ℕ → List ℤ
 row_by H low cap totals counts kind =
     tabulate 48 (λ h. pick (ltb h H) (held_mean (get_or totals (kind * 48 + h) (pos 0)) (get_or counts (kind * 48 + h) 0) low cap) (pos 0))
+
+-- what the two rows, or the refusal, come to
+abbrev pub made_by : Result (List (List ℤ)) Refusal → Outcome
+made_by (Ok rows) = record { verdict = accepted; weekday = get_or rows 0 []; weekend = get_or rows 1 [] }
+made_by (Err refusal) = refused_by (verdict_of (Err refusal))

@@ -5,17 +5,16 @@ mod pass;
 
 ghost use Rattle.std.specs.Prelude.{◌≡◌, [], ◌∷◌, length};
 ghost use Rattle.pricing.specs.Holding.{is_energy};
-ghost use Rattle.schedule.specs.Schedule.{sizes_ok, each_kind, has_kind, kinds_ok, verdict_of, refused_by, answered, schedule};
-ghost use Rattle.schedule.specs.Working.{Meaned, Means, held_mean, row_by};
+ghost use Rattle.schedule.specs.Schedule.{sizes_ok, each_kind, has_kind, kinds_ok, answered, schedule};
+ghost use Rattle.schedule.specs.Working.{Meaned, Means, held_mean, row_by, made_by};
 
 use crate::pass::add_days;
 use pricing::holding::{held, limits_ok, lowest};
 use pricing::rounding::rounded;
 
-// What became of a call: the schedule, or the first refusal.
+// Why no schedule is made.
 #[derive(Clone, Copy)]
-pub enum Making {
-    Made,
+pub enum Refusal {
     Sizes,
     Kinds,
     Limits,
@@ -25,7 +24,7 @@ pub enum Making {
 // The answer: a row of 48 prices for weekdays and one for weekends and holidays, zeros where the call is refused.
 #[derive(Clone, Copy)]
 pub struct Answer {
-    pub making: Making,
+    pub making: Result<(), Refusal>,
     pub weekday: [i32; 48],
     pub weekend: [i32; 48],
 }
@@ -43,26 +42,14 @@ fn each_kind(kinds: &[u8]) -> bool
     requires { length kinds.now ≡ 28 }
     ensures { result ≡ each_kind kinds.now }
 {
-    let mut ok = true;
-    let mut d: usize = 0;
-    while d < 28 {
-        ok = ok & (kinds[d] <= 1);
-        d += 1;
-    }
-    ok
+    kinds.iter().all(|kind| *kind <= 1)
 }
 
 fn has_kind(kinds: &[u8], kind: u8) -> bool
     requires { length kinds.now ≡ 28 }
     ensures { result ≡ has_kind kinds.now kind }
 {
-    let mut found = false;
-    let mut d: usize = 0;
-    while d < 28 {
-        found = found | (kinds[d] == kind);
-        d += 1;
-    }
-    found
+    kinds.contains(&kind)
 }
 
 fn kinds_ok(kinds: &[u8]) -> bool
@@ -93,11 +80,9 @@ fn row(
     ensures { result ≡ row_by halves low cap totals.now counts.now kind }
 {
     let mut all = [0i32; 48];
-    let mut h: usize = 0;
-    while h < halves {
+    for h in 0..halves {
         let k = kind * 48 + h;
         all[h] = held_mean(totals[k], counts[k], low, cap);
-        h += 1;
     }
     all
 }
@@ -120,14 +105,42 @@ fn market_of(energy: bool) -> usize
     if energy { 0 } else { 1 }
 }
 
-fn refused(making: Making) -> Answer
-    ensures { answered result ≡ refused_by (verdict_of making) }
+// The two rows of a schedule, or the first refusal.
+fn made(
+    halves: u8,
+    cap: i32,
+    floor: i32,
+    energy: bool,
+    prices: &[i32],
+    kinds: &[u8],
+) -> Result<[[i32; 48]; 2], Refusal>
+    ensures { made_by result ≡ schedule halves cap floor energy prices.now kinds.now }
 {
-    Answer {
-        making,
-        weekday: [0; 48],
-        weekend: [0; 48],
+    if !sizes_ok(halves, prices, kinds) {
+        return Err(Refusal::Sizes);
     }
+    if !kinds_ok(kinds) {
+        return Err(Refusal::Kinds);
+    }
+    if !limits_ok(cap, floor) {
+        return Err(Refusal::Limits);
+    }
+    let market = market_of(energy);
+    let mut totals = [0i64; 96];
+    let mut counts = [0u32; 96];
+    let bad = add_days(
+        halves as usize,
+        market,
+        prices,
+        kinds,
+        &mut totals,
+        &mut counts,
+    );
+    if let Some(place) = bad {
+        return Err(Refusal::Price(place));
+    }
+    let low = lowest(market, floor);
+    Ok(rows(halves as usize, low, cap, &totals, &counts))
 }
 
 // The schedule of one market from 28 days of prices and their kinds.
@@ -141,34 +154,16 @@ pub fn schedule(
 ) -> Answer
     ensures { answered result ≡ schedule halves cap floor energy prices.now kinds.now }
 {
-    if !sizes_ok(halves, prices, kinds) {
-        return refused(Making::Sizes);
-    }
-    if !kinds_ok(kinds) {
-        return refused(Making::Kinds);
-    }
-    if !limits_ok(cap, floor) {
-        return refused(Making::Limits);
-    }
-    let market = market_of(energy);
-    let mut totals = [0i64; 96];
-    let mut counts = [0u32; 96];
-    let bad = add_days(
-        halves as usize,
-        market,
-        prices,
-        kinds,
-        &mut totals,
-        &mut counts,
-    );
-    if bad < prices.len() {
-        return refused(Making::Price(bad));
-    }
-    let low = lowest(market, floor);
-    let all = rows(halves as usize, low, cap, &totals, &counts);
-    Answer {
-        making: Making::Made,
-        weekday: all[0],
-        weekend: all[1],
+    match made(halves, cap, floor, energy, prices, kinds) {
+        Ok(all) => Answer {
+            making: Ok(()),
+            weekday: all[0],
+            weekend: all[1],
+        },
+        Err(refusal) => Answer {
+            making: Err(refusal),
+            weekday: [0; 48],
+            weekend: [0; 48],
+        },
     }
 }

@@ -1,13 +1,17 @@
--- `schedule::each_kind` meets its contract. The loop's invariant: the test of the days passed. Assumes nothing.
-use mathlib.Core.Path.{refl}
-use native.Mathlib.Omega.{arith}
+-- `schedule::each_kind` meets its contract. Assumes nothing.
+use mathlib.Core.Path.{ap, ◌∙◌}
+use mathlib.Core.Bool.{Bool}
 use lib.Dec.{leb}
-use lib.ListN.{get_or}
-use Rattle.laws.proofs.Lists.{all_below-none, all_below-step}
+use Prim.Native.Nat.{ℕ}
+use borrow.Author.Rules.{rules}
+use Rattle.std.specs.Prelude.{IsTrue, ◌↔◌, All}
+use Rattle.laws.specs.Lists.{all_below}
+use Rattle.schedule.proofs.Chains.{at, all-is}
 use Rattle.schedule.proofs.each_kind.Goals as goal
 
-pub loop-d-init : goal.loop-d-init
-loop-d-init c = (omega arith, all_below-none (λ i. leb (get_or c.args.kinds.now i 0) 1))
-
-pub loop-d-preserved : goal.loop-d-preserved
-loop-d-preserved c = (omega arith, all_below-step _ _ c.loop-d.invariant.1 refl)
+pub returns : goal.returns
+returns c =
+    let kinds = c.args.kinds.now in
+    let known : ℕ → Bool = λ k. leb k 1 in
+    let each : IsTrue c.all.result ↔ All (λ k. IsTrue (leb k 1)) kinds = search rules in
+    all-is known 0 kinds c.all.result each ∙ ap (λ (n : ℕ). all_below n (at known 0 kinds)) c.requires

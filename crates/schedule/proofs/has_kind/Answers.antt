@@ -1,13 +1,16 @@
--- `schedule::has_kind` meets its contract. The loop's invariant: the test of the days passed. Assumes nothing.
-use mathlib.Core.Path.{refl}
-use native.Mathlib.Omega.{arith}
+-- `schedule::has_kind` meets its contract. Assumes nothing.
+use mathlib.Core.Path.{◌≡◌, ap, ◌∙◌}
+use mathlib.Core.Bool.{Bool}
 use lib.Dec.{eqb}
-use lib.ListN.{get_or}
-use Rattle.laws.proofs.Lists.{any_below-none, any_below-step}
+use Prim.Native.Nat.{ℕ}
+use Rattle.std.specs.List.{list_any}
+use Rattle.laws.specs.Lists.{any_below}
+use Rattle.schedule.proofs.Chains.{at, any-is}
 use Rattle.schedule.proofs.has_kind.Goals as goal
 
-pub loop-d-init : goal.loop-d-init
-loop-d-init c = (omega arith, any_below-none (λ i. eqb (get_or c.args.kinds.now i 0) c.args.kind))
-
-pub loop-d-preserved : goal.loop-d-preserved
-loop-d-preserved c = (omega arith, any_below-step _ _ c.loop-d.invariant.1 refl)
+pub returns : goal.returns
+returns c =
+    let kinds = c.args.kinds.now in
+    let same : ℕ → Bool = λ k. eqb k c.args.kind in
+    let some : c.contains.result ≡ list_any same kinds = c.contains.ensures.value in
+    some ∙ any-is same 0 kinds ∙ ap (λ (n : ℕ). any_below n (at same 0 kinds)) c.requires

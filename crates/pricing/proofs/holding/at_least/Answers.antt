@@ -1,13 +1,16 @@
 -- `pricing::holding::at_least` meets its contract. Assumes nothing.
+use mathlib.Core.Path.{◌≡◌, ◌∙◌}
+use borrow.Author.Rules.{rules}
+use mir.Syntax.{w32}
+use mir.Val.{SFits}
 use mir.Facts.{to_z-of_z}
-use Rattle.laws.specs.Base.{max_z}
-use Rattle.laws.proofs.Integers.{signed}
+use Rattle.std.specs.Int.{int_max}
+use Rattle.pricing.proofs.Holdings.{max-is}
 use Rattle.pricing.proofs.holding.at_least.Goals as goal
 
-pub returns-then-limit-x : goal.returns-then-limit-x
-unfolding max_z
-returns-then-limit-x c = rw (simp (signed, c.ranges.x, c.ranges.limit) at c.if-limit-x.true) (to_z-of_z c.ranges.x)
-
-pub returns-else-limit-x : goal.returns-else-limit-x
-unfolding max_z
-returns-else-limit-x c = rw (simp (signed, c.ranges.x, c.ranges.limit) at c.if-limit-x.false) (to_z-of_z c.ranges.limit)
+pub returns : goal.returns
+returns c =
+    let a = c.args in
+    let f : SFits w32 c.max.result = search rules in
+    let most : c.max.result ≡ int_max a.limit a.x = simp (to_z-of_z c.ranges.limit, to_z-of_z c.ranges.x) at c.max.ensures.value in
+    to_z-of_z f ∙ most ∙ max-is a.limit a.x

@@ -22,4 +22,4 @@ pub returns : goal.returns
 unfolding indexed
 returns c =
     let passed : index_ok c.args.amount c.args.c c.args.b c.args.last ≡ true = sym c.index_ok.ensures ∙ c.if-not-index_ok.false in
-    rw (passed, c.larger.ensures, c.nearest-hundreds.ensures, c.sum.ensures, c.sum-2.ensures)
+    rw (passed, c.max.ensures, c.nearest-hundreds.ensures, c.sum.ensures, c.sum-2.ensures)

@@ -1,6 +1,7 @@
 -- `schedule::pass::add_day` meets its contract. The loop's invariant: totals, counts and first bad price are those of the half-hours passed. Assumes nothing.
 use mathlib.Core.Path.{◌≡◌, refl, ap, ap₂, sym, ◌∙◌}
 use mathlib.Core.List.{List}
+use Rattle.std.specs.Prelude.{Option}
 use Prim.Native.Nat.{ℕ, ◌+◌, ◌*◌, ◌≤◌, ◌<◌}
 use native.Mathlib.Omega.{arith}
 use borrow.Author.Rules.{rules}
@@ -13,9 +14,8 @@ use Rattle.laws.specs.Lists.{total}
 use Rattle.laws.proofs.Integers.{abs-add, abs-fits}
 use Rattle.pricing.specs.Holding.{is_energy}
 use Rattle.schedule.specs.Schedule.{prices_of, half_hour}
-use Rattle.schedule.specs.Running.{bad_in}
-use Rattle.schedule.specs.Working.{bad_with, counted_on}
-use Rattle.schedule.proofs.Runs.{table, table-size, table-there, during, day-done, half-was, half_step, room-set, bad_before, bad-step, bad-done}
+use Rattle.schedule.specs.Working.{found_in, bad_with, counted_on}
+use Rattle.schedule.proofs.Runs.{table, table-size, table-there, during, day-done, half-was, half_step, room-set, bad-step}
 use Rattle.schedule.proofs.Schedules.{prices-taken, countable, day-counted}
 use Rattle.schedule.proofs.pass.add_day.Goals as goal
 
@@ -32,7 +32,6 @@ loop-h-preserved c =
     let kind-in : kind ≤ 1 = c.requires.days.0.kind a.d c.requires.days.1 in
     let below-48 : half < 48 = omega (arith, c.requires.days.0.halves, c.loop-h-test.true) in
     let from : ℕ = a.d * (6 * a.halves) + 6 * half in
-    let end : ℕ = a.d * (6 * a.halves) + 6 * a.halves in
     -- where the half-hour's total stands
     let place : ℕ = c.row_of-row.result + half in
     let place_is : place ≡ kind * 48 + half = ap (λ (row : ℕ). row + half) c.row_of-row.ensures in
@@ -61,9 +60,9 @@ loop-h-preserved c =
     let next : a.d * (6 * a.halves) + 6 * (half + 1) ≡ from + 6 = omega arith in (
       omega (arith, c.loop-h-test.true),
       bad
-          ∙ ap₂ (λ (six : List ℤ) (bad : ℕ). bad_with (is_energy a.market) six bad from) c.half_hour-six.ensures l.invariant.1
-          ∙ bad-step (is_energy a.market) a.prices.now from end (omega (arith, c.loop-h-test.true))
-          ∙ ap (λ (n : ℕ). bad_before (is_energy a.market) a.prices.now n end) (sym next),
+          ∙ ap₂ (λ (six : List ℤ) (bad : Option ℕ). bad_with (is_energy a.market) six bad from) c.half_hour-six.ensures l.invariant.1
+          ∙ bad-step (is_energy a.market) a.prices.now from
+          ∙ ap (found_in (is_energy a.market) a.prices.now) (sym next),
       ap (λ (k : ℕ). set l.totals k (to_z w64 (of_z w64 (to_z w64 (of_z w64 old) +ℤ to_z w64 (of_z w64 sum))))) place_is
           ∙ half_step total (pos 0) a.halves a.prices.now a.kinds.now a.d half below-48 c.loop-h-test.true kind-in l.totals _ l.invariant.2
           (ap (λ (z : ℤ). to_z w64 (of_z w64 z)) added ∙ to_z-of_z new-fits ∙ new_is),
@@ -77,14 +76,10 @@ returns c =
     let a = c.args in
     let l = c.loop-h in
     let e : l.h ≡ a.halves = omega arith in
-    let end : ℕ = a.d * (6 * a.halves) + 6 * a.halves in
-    let end-is : end ≡ (a.d + 1) * (6 * a.halves) = omega arith in
+    let end-is : a.d * (6 * a.halves) + 6 * l.h ≡ (a.d + 1) * (6 * a.halves) = omega arith in
     record {
       value =
-          l.invariant.1
-          ∙ ap (λ (h : ℕ). bad_before (is_energy a.market) a.prices.now (a.d * (6 * a.halves) + 6 * h) end) e
-          ∙ bad-done (is_energy a.market) a.prices.now end
-          ∙ ap (bad_in (is_energy a.market) a.prices.now) end-is;
+          l.invariant.1 ∙ ap (found_in (is_energy a.market) a.prices.now) end-is;
       totals_after =
           l.invariant.2
           ∙ ap (λ (h : ℕ). table total (pos 0) a.halves a.prices.now a.kinds.now (during a.d h)) e
