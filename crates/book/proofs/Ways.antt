@@ -11,8 +11,7 @@ use Rattle.pricing.specs.Holding.{limits_ok}
 use Rattle.book.specs.declared.record.Book.{Book}
 use Rattle.book.specs.declared.record.Refusal.{Refusal}
 use Rattle.book.specs.declared.record.Refusal.TheVariants.{Invalid, Length, Full, Number, Kind, Mark, Price, Factor, Threshold, Limits, Setting, Market, Sums, Buffer, ImageLength, ImageKind, ImageField, ImageTotal, Broken, RecordKind, RecordRegion, PlannedPrice, Hundreds, RecordOrder, BilledEnergy, ImageFirst}
-use Rattle.book.specs.declared.record.Answer.{Answer}
-use Rattle.book.specs.declared.record.Answer.TheVariants.{Accepted, Refused}
+use Rattle.std.specs.Prelude.{Result, Ok, Err}
 use Rattle.book.specs.Record.{links_with, verdict_of, verdict, is_accepted}
 use Rattle.book.specs.Validity.{shape_ok, parents_ok, ends_ok, threshold_ok, regions_ok, places_ok, valid}
 
@@ -70,9 +69,9 @@ refusal_is (BilledEnergy place) = refl
 refusal_is ImageFirst = refl
 
 -- ---- an answer that says a verdict
-module _ (a : Answer) (v : Verdict) (h : verdict a ≡ v) where
-  pub is-accepted : a ≡ Accepted → v ≡ accepted
-  is-accepted e = sym h ∙ ap verdict e
+module _ {T : Type 0} (a : Result T Refusal) (v : Verdict) (h : verdict a ≡ v) where
+  pub is-accepted : (x : T) → a ≡ Ok x → v ≡ accepted
+  is-accepted x e = sym h ∙ ap verdict e
 
-  pub is-refused : (r : Refusal) → a ≡ Refused r → (v ≡ verdict_of r) × (is_accepted v ≡ false)
+  pub is-refused : (r : Refusal) → a ≡ Err r → (v ≡ verdict_of r) × (is_accepted v ≡ false)
   is-refused r e = let q : v ≡ verdict_of r = sym h ∙ ap verdict e in (q, rw q (refusal_is r))

@@ -1,12 +1,10 @@
 -- The closed book, the sizes of the lent slices, and the paper's number and place of every refusal. Assumes nothing.
-use Rattle.std.specs.Prelude.{Bool, not, ℕ, ◌+◌, ◌*◌, eqb, pos, replicate}
+use Rattle.std.specs.Prelude.{Bool, not, Result, Ok, Err, ℕ, ◌+◌, ◌*◌, eqb, pos, replicate}
 use Rattle.laws.specs.Base.{pick}
 use Rattle.pricing.specs.Verdict.{Verdict, accepted, refused, refused_at}
 use Rattle.book.specs.declared.record.Book.{Book}
 use Rattle.book.specs.declared.record.Refusal.{Refusal}
 use Rattle.book.specs.declared.record.Refusal.TheVariants.{Invalid, Length, Full, Number, Kind, Mark, Price, Factor, Threshold, Limits, Setting, Market, Sums, Buffer, ImageLength, ImageKind, ImageField, ImageTotal, Broken, RecordKind, RecordRegion, PlannedPrice, Hundreds, RecordOrder, BilledEnergy, ImageFirst}
-use Rattle.book.specs.declared.record.Answer.{Answer}
-use Rattle.book.specs.declared.record.Answer.TheVariants.{Accepted, Refused}
 
 -- "A closed book (all zero) is what refused opening or loading returns"
 abbrev pub closed : Book
@@ -91,9 +89,10 @@ verdict_of RecordOrder = refused 45
 verdict_of (BilledEnergy place) = refused_at 46 place
 verdict_of ImageFirst = refused 47
 
-abbrev pub verdict : Answer → Verdict
-verdict Accepted = accepted
-verdict (Refused r) = verdict_of r
+-- of a call that answers `T` where it accepts
+abbrev pub verdict : {T : Type 0} → Result T Refusal → Verdict
+verdict (Ok _) = accepted
+verdict (Err r) = verdict_of r
 
 -- number 0 is an acceptance
 abbrev pub is_accepted : Verdict → Bool

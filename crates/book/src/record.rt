@@ -73,11 +73,11 @@ pub enum Refusal {
     ImageFirst,
 }
 
-// What a call that answers nothing else says.
+// What a call on a book hands back: the book after it, and its answer or the first refusal.
 #[derive(Clone, Copy)]
-pub enum Answer {
-    Accepted,
-    Refused(Refusal),
+pub struct Reply<T> {
+    pub book: Book,
+    pub answer: Result<T, Refusal>,
 }
 
 // The closed book: all zero.
@@ -104,70 +104,72 @@ pub fn closed() -> Book
     }
 }
 
-// The paper's number of a refusal.
-pub fn number(refusal: Refusal) -> u32
-    ensures { result ≡ (verdict_of refusal).number }
-{
-    match refusal {
-        Refusal::Invalid => 10,
-        Refusal::Length => 11,
-        Refusal::Full => 12,
-        Refusal::Number => 13,
-        Refusal::Kind => 14,
-        Refusal::Mark(_) => 15,
-        Refusal::Price(_) => 16,
-        Refusal::Factor(_) => 17,
-        Refusal::Threshold => 18,
-        Refusal::Limits => 19,
-        Refusal::Setting => 20,
-        Refusal::Market => 21,
-        Refusal::Sums => 22,
-        Refusal::Buffer => 23,
-        Refusal::ImageLength => 24,
-        Refusal::ImageKind => 25,
-        Refusal::ImageField => 26,
-        Refusal::ImageTotal => 27,
-        Refusal::Broken => 40,
-        Refusal::RecordKind => 41,
-        Refusal::RecordRegion => 42,
-        Refusal::PlannedPrice => 43,
-        Refusal::Hundreds => 44,
-        Refusal::RecordOrder => 45,
-        Refusal::BilledEnergy(_) => 46,
-        Refusal::ImageFirst => 47,
+impl Refusal {
+    // The paper's number of a refusal.
+    pub fn number(self) -> u32
+        ensures { result ≡ (verdict_of self).number }
+    {
+        match self {
+            Refusal::Invalid => 10,
+            Refusal::Length => 11,
+            Refusal::Full => 12,
+            Refusal::Number => 13,
+            Refusal::Kind => 14,
+            Refusal::Mark(_) => 15,
+            Refusal::Price(_) => 16,
+            Refusal::Factor(_) => 17,
+            Refusal::Threshold => 18,
+            Refusal::Limits => 19,
+            Refusal::Setting => 20,
+            Refusal::Market => 21,
+            Refusal::Sums => 22,
+            Refusal::Buffer => 23,
+            Refusal::ImageLength => 24,
+            Refusal::ImageKind => 25,
+            Refusal::ImageField => 26,
+            Refusal::ImageTotal => 27,
+            Refusal::Broken => 40,
+            Refusal::RecordKind => 41,
+            Refusal::RecordRegion => 42,
+            Refusal::PlannedPrice => 43,
+            Refusal::Hundreds => 44,
+            Refusal::RecordOrder => 45,
+            Refusal::BilledEnergy(_) => 46,
+            Refusal::ImageFirst => 47,
+        }
     }
-}
 
-// The place that a refusal gives, 0 where it gives none.
-pub fn place(refusal: Refusal) -> usize
-    ensures { result ≡ (verdict_of refusal).place }
-{
-    match refusal {
-        Refusal::Mark(place) => place,
-        Refusal::Price(place) => place,
-        Refusal::Factor(place) => place,
-        Refusal::BilledEnergy(place) => place,
-        _ => 0,
+    // The place that a refusal gives, 0 where it gives none.
+    pub fn place(self) -> usize
+        ensures { result ≡ (verdict_of self).place }
+    {
+        match self {
+            Refusal::Mark(place) => place,
+            Refusal::Price(place) => place,
+            Refusal::Factor(place) => place,
+            Refusal::BilledEnergy(place) => place,
+            _ => 0,
+        }
     }
 }
 
 // The number that an answer carries: 0 is an acceptance.
-pub fn number_in(answer: Answer) -> u32
+pub fn number_in<T: Copy>(answer: Result<T, Refusal>) -> u32
     ensures { result ≡ (verdict answer).number }
 {
     match answer {
-        Answer::Accepted => 0,
-        Answer::Refused(refusal) => number(refusal),
+        Ok(_) => 0,
+        Err(refusal) => refusal.number(),
     }
 }
 
 // The place that an answer carries.
-pub fn place_in(answer: Answer) -> usize
+pub fn place_in<T: Copy>(answer: Result<T, Refusal>) -> usize
     ensures { result ≡ (verdict answer).place }
 {
     match answer {
-        Answer::Accepted => 0,
-        Answer::Refused(refusal) => place(refusal),
+        Ok(_) => 0,
+        Err(refusal) => refusal.place(),
     }
 }
 

@@ -1,5 +1,5 @@
 // Rule 10: whether a book is one that a call may take. The loops read numbers and lent arrays, never the whole book.
-ghost use Rattle.std.specs.Prelude.{◌≡◌, true, ◌&&◌, ◌+◌, ◌≤◌, leb, pos, get_or};
+ghost use Rattle.std.specs.Prelude.{◌≡◌, ◌&&◌, ◌||◌, ◌+◌, ◌≤◌, leb, ltb, pos, get_or};
 ghost use Rattle.laws.specs.Lists.{all_below};
 ghost use Rattle.book.specs.Record.{none};
 ghost use Rattle.book.specs.Validity.{parent_ok, parents_ok, shape_ok, threshold_ok, region_ok, place_ok, regions_ok, places_ok, ends_ok, valid};
@@ -16,15 +16,14 @@ pub fn parents_ok(regions: usize, parents: [u8; 8]) -> bool
     ensures { result ≡ parents_ok regions parents }
 {
     let mut ok = true;
-    let mut r: usize = 0;
-    while r < 8 {
-        ok = ok & parent_ok(regions, r, parents[r] as usize);
-        r += 1;
+    for r in 0..8 {
+        ok &= parent_ok(regions, r, parents[r] as usize);
     }
     ok
 }
 
 // A region's parent, or 255 for a number that is no region's: a forged book may have its ends anywhere.
+// Kept: 255 is what the record holds for none, and `ends_ok` compares it.
 fn parent_of(parents: [u8; 8], r: usize) -> usize
     ensures { result ≡ get_or parents r none }
 {
@@ -77,76 +76,65 @@ fn place_ok(used: bool, sum: i64, mark: u8) -> bool
     if used {
         return (-20160000000 <= sum) & (sum <= 20160000000) & (mark <= 1);
     }
-    (0 <= sum) & (sum <= 0) & (mark == 0)
+    (sum == 0) & (mark == 0)
 }
 
-fn regions_ok<'a>(
+fn regions_ok(
     regions: usize,
     window: u16,
     entries: u32,
-    counts: &'a [u16; 8],
-    nexts: &'a [u16; 8],
+    counts: &[u16; 8],
+    nexts: &[u16; 8],
 ) -> bool
     ensures { result ≡ regions_ok regions window entries counts.now nexts.now }
 {
     let mut ok = true;
-    let mut r: usize = 0;
-    while r < 8 {
-        ok = ok & region_ok(r < regions, window, entries, counts[r], nexts[r]);
-        r += 1;
+    for r in 0..8 {
+        ok &= region_ok(r < regions, window, entries, counts[r], nexts[r]);
     }
     ok
 }
 
-// The eleven places of a region all of whose markets are used, as in the real market: no place is asked whether it is.
-fn full_row<'a>(sums: &'a [i64; 88], marks: &'a [u8; 88], from: usize) -> bool
-    requires { from + 11 ≤ 88 }
-    ensures { let sum = get_or sums.now in let mark = get_or marks.now in
-        result ≡ all_below 11 (λ m. place_ok true (sum (from + m) (pos 0)) (mark (from + m) 0)) }
-{
-    let mut ok = true;
-    let mut m: usize = 0;
-    while m < 11 {
-        ok = ok & place_ok(true, sums[from + m], marks[from + m]);
-        m += 1;
-    }
-    ok
-}
-
-// The eleven places of a region, which start at 11 × region.
-fn row_ok<'a>(
+// The eleven places of a region, which start at 11 × region. The first `SURE` are used and not asked whether they are: all of them
+// where every market is used, as in the real market, or else none.
+fn row_passes<const SURE: usize>(
     used: bool,
     services: usize,
-    sums: &'a [i64; 88],
-    marks: &'a [u8; 88],
+    sums: &[i64; 88],
+    marks: &[u8; 88],
     from: usize,
 ) -> bool
     requires { from + 11 ≤ 88 }
-    ensures { result ≡ all_below 11 (λ m. place_ok (used && leb m services) (get_or sums.now (from + m) (pos 0)) (get_or marks.now (from + m) 0)) }
+    ensures { let sum = get_or sums.now in let mark = get_or marks.now in
+        result ≡ all_below 11 (λ m. place_ok (ltb m SURE || used && leb m services) (sum (from + m) (pos 0)) (mark (from + m) 0)) }
 {
-    if used & (10 <= services) {
-        return full_row(sums, marks, from);
-    }
     let mut ok = true;
-    let mut m: usize = 0;
-    while m < 11 {
-        ok = ok & place_ok(used & (m <= services), sums[from + m], marks[from + m]);
-        m += 1;
+    for m in 0..11 {
+        ok &= place_ok(
+            (m < SURE) | (used & (m <= services)),
+            sums[from + m],
+            marks[from + m],
+        );
     }
     ok
 }
 
-fn places_ok<'a>(regions: usize, services: usize, sums: &'a [i64; 88], marks: &'a [u8; 88]) -> bool
+fn row_ok(used: bool, services: usize, sums: &[i64; 88], marks: &[u8; 88], from: usize) -> bool
+    requires { from + 11 ≤ 88 }
+    ensures { let sum = get_or sums.now in let mark = get_or marks.now in
+        result ≡ all_below 11 (λ m. place_ok (used && leb m services) (sum (from + m) (pos 0)) (mark (from + m) 0)) }
+{
+    if used & (10 <= services) {
+        row_passes::<11>(used, services, sums, marks, from)
+    } else {
+        row_passes::<0>(used, services, sums, marks, from)
+    }
+}
+
+fn places_ok(regions: usize, services: usize, sums: &[i64; 88], marks: &[u8; 88]) -> bool
     ensures { result ≡ places_ok regions services sums.now marks.now }
 {
-    let mut r: usize = 0;
-    while r < 8 {
-        if !row_ok(r < regions, services, sums, marks, 11 * r) {
-            return false;
-        }
-        r += 1;
-    }
-    true
+    (0..8).all(|r| row_ok(r < regions, services, sums, marks, 11 * r))
 }
 
 // Whether a call may take the book: any value of the record may be lent.

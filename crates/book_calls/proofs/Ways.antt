@@ -12,8 +12,7 @@ use Rattle.pricing.specs.Holding.{limits_ok}
 use Rattle.book.specs.declared.record.Book.{Book}
 use Rattle.book.specs.declared.record.Settings.{Settings}
 use Rattle.book.specs.declared.record.Refusal.{Refusal}
-use Rattle.book.specs.declared.record.Answer.{Answer}
-use Rattle.book.specs.declared.record.Answer.TheVariants.{Accepted, Refused}
+use Rattle.std.specs.Prelude.{Result, Ok, Err}
 use Rattle.book.specs.Record.{closed, ring_size, verdict, is_accepted}
 use Rattle.book.specs.Validity.{threshold_ok, valid}
 use Rattle.book.proofs.Ways.{is-accepted, is-refused}
@@ -53,16 +52,16 @@ module _ (s : Settings) (ring : ℕ) where
       → limits_ok s.cap s.floor ≡ true → accepted ≡ open_verdict s ring
   open-0 a b c d = rw (open-tests, a, b, c, d)
 
-module _ (s : Settings) (ring : List ℤ) (a : Answer) (h : verdict a ≡ open_verdict s (length ring)) (b : Book) where
-  pub opened-refused : (r : Refusal) → a ≡ Refused r → b ≡ closed → outcome (record { book = b; answer = a }) ring ≡ opened s ring
+module _ (s : Settings) (ring : List ℤ) (a : Result Unit Refusal) (h : verdict a ≡ open_verdict s (length ring)) (b : Book) where
+  pub opened-refused : (r : Refusal) → a ≡ Err r → b ≡ closed → outcome (record { book = b; answer = a }) ring ≡ opened s ring
   unfolding opened
   opened-refused r e q =
       rw ((is-refused a (open_verdict s (length ring)) h r e).1, h, q)
 
-  pub opened-accepted : (ring' : List ℤ) → a ≡ Accepted → b ≡ fresh s → ring' ≡ replicate (length ring) (pos 0) → outcome (record { book = b; answer = a }) ring' ≡ opened s ring
+  pub opened-accepted : (ring' : List ℤ) → a ≡ Ok tt → b ≡ fresh s → ring' ≡ replicate (length ring) (pos 0) → outcome (record { book = b; answer = a }) ring' ≡ opened s ring
   unfolding opened
   opened-accepted ring' e q z =
-      rw (is-accepted a (open_verdict s (length ring)) h e, e, q, z)
+      rw (is-accepted a (open_verdict s (length ring)) h tt e, e, q, z)
 
 -- ---- the threshold of openings and settings: 18, then 44, over their tests
 abbrev pub ranges : Bool → Bool → Verdict
@@ -92,15 +91,15 @@ setting-is b threshold = refl
 -- of a book that rule 10 accepts
 module _ (b : Book) (ok : valid b ≡ true) where
   -- of a threshold, as its verdict says
-  module _ (threshold : ℤ) (a : Answer) (h : verdict a ≡ threshold_verdict threshold) where
-    pub threshold-refused : (r : Refusal) → a ≡ Refused r
+  module _ (threshold : ℤ) (a : Result Unit Refusal) (h : verdict a ≡ threshold_verdict threshold) where
+    pub threshold-refused : (r : Refusal) → a ≡ Err r
         → ◌≡◌ {A = Setting.Outcome} (record { verdict = verdict a; book = b }) (set_threshold b threshold)
     threshold-refused r e = rw (setting-is b threshold, ok, (is-refused a (threshold_verdict threshold) h r e).1, h)
 
     -- accepted, of a number that is the one lent
-    pub threshold-set : (x : ℤ) → a ≡ Accepted → x ≡ threshold
+    pub threshold-set : (x : ℤ) → a ≡ Ok tt → x ≡ threshold
         → ◌≡◌ {A = Setting.Outcome} (record { verdict = verdict a; book = with_settings b x b.cap b.floor }) (set_threshold b threshold)
-    threshold-set x e q = rw (setting-is b threshold, ok, is-accepted a (threshold_verdict threshold) h e, e, q)
+    threshold-set x e q = rw (setting-is b threshold, ok, is-accepted a (threshold_verdict threshold) h tt e, e, q)
 
 pub limits-0 : (b : Book) (cap floor x y : ℤ) → valid b ≡ true → limits_ok cap floor ≡ true → x ≡ cap → y ≡ floor
     → ◌≡◌ {A = Setting.Outcome} (record { verdict = accepted; book = with_settings b b.threshold x y }) (set_limits b cap floor)

@@ -5,7 +5,7 @@ use Rattle.pricing.specs.Verdict.{Verdict, accepted, refused}
 use Rattle.pricing.specs.Holding.{limits_ok}
 use Rattle.book.specs.declared.record.Book.{Book}
 use Rattle.book.specs.declared.record.Settings.{Settings}
-use Rattle.book_calls.specs.declared.opening.Opened.{Opened}
+use Rattle.book.specs.declared.record.Reply.{Reply}
 use Rattle.book.specs.Record.{closed, ring_size, verdict, is_accepted}
 use Rattle.book.specs.Validity.{shape_ok, parents_ok, ends_ok}
 use Rattle.book_calls.specs.Setting.{threshold_verdict}
@@ -51,7 +51,7 @@ pub record Outcome : Type 0 where
   pub book : Book
   pub ring : List ℤ
 
-abbrev pub outcome : Opened → List ℤ → Outcome
+abbrev pub outcome : Reply Unit → List ℤ → Outcome
 outcome r ring = record { verdict = verdict r.answer; book = r.book; ring = ring }
 
 -- accepted: a fresh book and a ring "zeroed by opening"; refused: the closed book and the ring as it was

@@ -1,11 +1,11 @@
 -- The report of a market. Assumes nothing.
-use Rattle.std.specs.Prelude.{not, ◌&&◌, ℕ, leb, ltb, ℤ, pos, get_or}
+use Rattle.std.specs.Prelude.{Result, Ok, Err, not, ◌&&◌, ℕ, leb, ltb, ℤ, pos, get_or}
 use Rattle.laws.specs.Base.{pick}
 use Rattle.pricing.specs.Verdict.{Verdict, accepted, refused}
 use Rattle.book.specs.declared.record.Book.{Book}
 use Rattle.book_calls.specs.declared.report.Reading.{Reading}
-use Rattle.book_calls.specs.declared.report.Reading.TheVariants.{Values, Refused}
-use Rattle.book_calls.specs.declared.report.Reported.{Reported}
+use Rattle.book.specs.declared.record.Reply.{Reply}
+use Rattle.book.specs.declared.record.Refusal.{Refusal}
 use Rattle.book.specs.Record.{place_of, verdict_of, is_accepted}
 use Rattle.book.specs.Validity.{valid}
 
@@ -26,16 +26,16 @@ abbrev pub nothing : Verdict → Numbers
 nothing v = record { verdict = v; sum = pos 0; counted = 0; mark = 0; entries = 0 }
 
 -- the paper's numbers for each case
-abbrev pub numbers : Reading → Numbers
-numbers (Values sum counted mark entries) = record { verdict = accepted; sum = sum; counted = counted; mark = mark; entries = entries }
-numbers (Refused r) = nothing (verdict_of r)
+abbrev pub numbers : Result Reading Refusal → Numbers
+numbers (Ok v) = record { verdict = accepted; sum = v.sum; counted = v.counted; mark = v.mark; entries = v.entries }
+numbers (Err r) = nothing (verdict_of r)
 
 pub record Outcome : Type 0 where
   pub numbers : Numbers
   pub book : Book
 
-abbrev pub outcome : Reported → Outcome
-outcome r = record { numbers = numbers r.reading; book = r.book }
+abbrev pub outcome : Reply Reading → Outcome
+outcome r = record { numbers = numbers r.answer; book = r.book }
 
 unfoldable pub report_of : Book → ℕ → ℕ → Numbers
 report_of b region market =

@@ -4,7 +4,7 @@ use Rattle.laws.specs.Base.{pick}
 use Rattle.pricing.specs.Verdict.{Verdict, accepted, refused}
 use Rattle.pricing.specs.Holding.{limits_ok}
 use Rattle.book.specs.declared.record.Book.{Book}
-use Rattle.book_calls.specs.declared.setting.Changed.{Changed}
+use Rattle.book.specs.declared.record.Reply.{Reply}
 use Rattle.book.specs.Record.{verdict, is_accepted}
 use Rattle.book.specs.Validity.{threshold_ok, valid}
 
@@ -48,7 +48,7 @@ pub record Outcome : Type 0 where
   pub verdict : Verdict
   pub book : Book
 
-abbrev pub outcome : Changed → Outcome
+abbrev pub outcome : Reply Unit → Outcome
 outcome r = record { verdict = verdict r.answer; book = r.book }
 
 -- 10, then the setting's own refusal; refused: "hand back the lent book unchanged"

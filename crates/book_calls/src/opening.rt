@@ -4,16 +4,10 @@ ghost use Rattle.book.specs.Record.{verdict};
 ghost use Rattle.book_calls.specs.Opening.{open_verdict, fresh, outcome, opened};
 
 use crate::setting::threshold_verdict;
-use book::record::{Answer, Book, Refusal, Settings, closed, ring_size};
+use book::record::{Book, Refusal, Reply, Settings, closed, ring_size};
 use book::validity::{ends_ok, parents_ok, shape_ok};
 
-#[derive(Clone, Copy)]
-pub struct Opened {
-    pub book: Book,
-    pub answer: Answer,
-}
-
-fn open_verdict(settings: Settings, ring: usize) -> Answer
+fn open_verdict(settings: Settings, ring: usize) -> Result<(), Refusal>
     ensures { verdict result ≡ open_verdict settings ring }
 {
     let parents = settings.parents;
@@ -32,21 +26,16 @@ fn open_verdict(settings: Settings, ring: usize) -> Answer
         settings.to as usize,
     );
     if !(shape & parents_ok(regions, parents) & ends) {
-        return Answer::Refused(Refusal::Setting);
+        return Err(Refusal::Setting);
     }
     if ring != ring_size(settings.regions, settings.services, settings.window) {
-        return Answer::Refused(Refusal::Length);
+        return Err(Refusal::Length);
     }
-    let threshold = threshold_verdict(settings.threshold);
-    match threshold {
-        Answer::Refused(_) => threshold,
-        Answer::Accepted => {
-            if !pricing::holding::limits_ok(settings.cap, settings.floor) {
-                return Answer::Refused(Refusal::Limits);
-            }
-            threshold
-        }
+    threshold_verdict(settings.threshold)?;
+    if !pricing::holding::limits_ok(settings.cap, settings.floor) {
+        return Err(Refusal::Limits);
     }
+    Ok(())
 }
 
 fn fresh(settings: Settings) -> Book
@@ -73,31 +62,20 @@ fn fresh(settings: Settings) -> Book
     }
 }
 
-fn zero(ring: &mut [i32])
-    ensures { ring.new ≡ replicate (length ring.old) (pos 0) }
-{
-    let mut i: usize = 0;
-    while i < ring.len() {
-        ring[i] = 0;
-        i += 1;
-    }
-}
-
 // Opens a book over a ring of exactly R × M × W places.
-pub fn open(settings: Settings, ring: &mut [i32]) -> Opened
+pub fn open(settings: Settings, ring: &mut [i32]) -> Reply<()>
     ensures { outcome result ring.new ≡ opened settings ring.old }
 {
     let answer = open_verdict(settings, ring.len());
-    let none = closed();
-    let first = fresh(settings);
-    match answer {
-        Answer::Refused(_) => Opened { book: none, answer },
-        Answer::Accepted => {
-            zero(ring);
-            Opened {
-                book: first,
-                answer,
-            }
-        }
+    if let Err(_) = answer {
+        return Reply {
+            book: closed(),
+            answer,
+        };
+    }
+    ring.fill(0);
+    Reply {
+        book: fresh(settings),
+        answer,
     }
 }

@@ -3,14 +3,8 @@ ghost use Rattle.std.specs.Prelude.{◌≡◌, pos, ◌≤ℤ◌};
 ghost use Rattle.book.specs.Record.{verdict};
 ghost use Rattle.book_calls.specs.Setting.{in_hundreds, threshold_verdict, outcome, set_threshold, set_limits};
 
-use book::record::{Answer, Book, Refusal};
+use book::record::{Book, Refusal, Reply};
 use book::validity::{threshold_ok, valid};
-
-#[derive(Clone, Copy)]
-pub struct Changed {
-    pub book: Book,
-    pub answer: Answer,
-}
 
 // Whether a threshold that is in range is in whole hundreds of dollars.
 fn in_hundreds(threshold: i64) -> bool
@@ -21,58 +15,56 @@ fn in_hundreds(threshold: i64) -> bool
 }
 
 // What openings and settings alike ask of a threshold.
-pub(crate) fn threshold_verdict(threshold: i64) -> Answer
+pub(crate) fn threshold_verdict(threshold: i64) -> Result<(), Refusal>
     ensures { verdict result ≡ threshold_verdict threshold }
 {
     if !threshold_ok(threshold) {
-        return Answer::Refused(Refusal::Threshold);
+        return Err(Refusal::Threshold);
     }
     if !in_hundreds(threshold) {
-        return Answer::Refused(Refusal::Hundreds);
+        return Err(Refusal::Hundreds);
     }
-    Answer::Accepted
+    Ok(())
 }
 
-pub fn set_threshold(book: Book, threshold: i64) -> Changed
+pub fn set_threshold(book: Book, threshold: i64) -> Reply<()>
     ensures { outcome result ≡ set_threshold book threshold }
 {
     if !valid(book) {
-        return Changed {
+        return Reply {
             book,
-            answer: Answer::Refused(Refusal::Invalid),
+            answer: Err(Refusal::Invalid),
         };
     }
     let answer = threshold_verdict(threshold);
-    match answer {
-        Answer::Refused(_) => Changed { book, answer },
-        Answer::Accepted => {
-            let mut next = book;
-            next.threshold = threshold;
-            Changed { book: next, answer }
-        }
+    if let Err(_) = answer {
+        return Reply { book, answer };
     }
+    let mut next = book;
+    next.threshold = threshold;
+    Reply { book: next, answer }
 }
 
-pub fn set_limits(book: Book, cap: i32, floor: i32) -> Changed
+pub fn set_limits(book: Book, cap: i32, floor: i32) -> Reply<()>
     ensures { outcome result ≡ set_limits book cap floor }
 {
     if !valid(book) {
-        return Changed {
+        return Reply {
             book,
-            answer: Answer::Refused(Refusal::Invalid),
+            answer: Err(Refusal::Invalid),
         };
     }
     if !pricing::holding::limits_ok(cap, floor) {
-        return Changed {
+        return Reply {
             book,
-            answer: Answer::Refused(Refusal::Limits),
+            answer: Err(Refusal::Limits),
         };
     }
     let mut next = book;
     next.cap = cap;
     next.floor = floor;
-    Changed {
+    Reply {
         book: next,
-        answer: Answer::Accepted,
+        answer: Ok(()),
     }
 }

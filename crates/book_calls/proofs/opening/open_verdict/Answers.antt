@@ -30,11 +30,11 @@ returns-then-not-limits_ok c =
     let settings-is : (c.shape_ok-shape.result && c.parents_ok.result && c.ends_ok-ends.result) ≡ settings_ok c.args.settings = rw (c.shape_ok-shape.ensures, c.parents_ok.ensures, c.ends_ok-ends.ensures) in
     let settled : settings_ok c.args.settings ≡ true = sym (settings-is) ∙ c.if-not-shape-parents_ok.false in
     let sized : let a = c.args in ring_ok a.settings a.ring ≡ true = eq-eqb _ _ (c.if-ring-ring_size.false ∙ c.ring_size.ensures) in
-    let says : verdict c.threshold_verdict-threshold.result
+    let says : verdict c.threshold_verdict.result
     ≡ threshold_verdict c.args.settings.threshold = (let s = c.args.settings in
     let x : SFits w64 s.threshold = search rules in
-    c.threshold_verdict-threshold.ensures ∙ ap threshold_verdict (to_z-of_z x)) in
-    let taken : is_accepted (threshold_verdict c.args.settings.threshold) ≡ true = ap is_accepted (is-accepted _ _ (says) c.in-Accepted.is) in
+    c.threshold_verdict.ensures ∙ ap threshold_verdict (to_z-of_z x)) in
+    let taken : is_accepted (threshold_verdict c.args.settings.threshold) ≡ true = ap is_accepted (is-accepted _ _ (says) _ c.in_ok-threshold_verdict.was) in
     let limits-is : let s = c.args.settings in
     c.limits_ok.result ≡ limits_ok s.cap s.floor = (let s = c.args.settings in
     let x : SFits w32 s.cap = search rules in
@@ -42,31 +42,31 @@ returns-then-not-limits_ok c =
     rw (to_z-of_z x, to_z-of_z y) at c.limits_ok.ensures) in
     open-19 _ _ (settled) (sized) (taken) (sym (limits-is) ∙ c.if-not-limits_ok.true)
 
-pub returns-in-Refused : goal.returns-in-Refused
-returns-in-Refused c =
-    let says : verdict c.threshold_verdict-threshold.result
+pub returns-in_err-threshold_verdict : goal.returns-in_err-threshold_verdict
+returns-in_err-threshold_verdict c =
+    let says : verdict c.threshold_verdict.result
     ≡ threshold_verdict c.args.settings.threshold = (let s = c.args.settings in
     let x : SFits w64 s.threshold = search rules in
-    c.threshold_verdict-threshold.ensures ∙ ap threshold_verdict (to_z-of_z x)) in
+    c.threshold_verdict.ensures ∙ ap threshold_verdict (to_z-of_z x)) in
     let settings-is : (c.shape_ok-shape.result && c.parents_ok.result && c.ends_ok-ends.result) ≡ settings_ok c.args.settings = rw (c.shape_ok-shape.ensures, c.parents_ok.ensures, c.ends_ok-ends.ensures) in
     let settled : settings_ok c.args.settings ≡ true = sym (settings-is) ∙ c.if-not-shape-parents_ok.false in
     let sized : let a = c.args in ring_ok a.settings a.ring ≡ true = eq-eqb _ _ (c.if-ring-ring_size.false ∙ c.ring_size.ensures) in
-    says ∙ open-threshold _ _ (settled) (sized) (is-refused _ _ (says) _ c.in-Refused.is).1
+    let passed : c.from_residual.result ≡ c.threshold_verdict.result = search rules in
+    ap verdict passed ∙ says ∙ open-threshold _ _ (settled) (sized) (is-refused _ _ (says) _ c.in_err-threshold_verdict.was).1
 
-pub returns-else-not-limits_ok : goal.returns-else-not-limits_ok
-returns-else-not-limits_ok c =
+pub returns : goal.returns
+returns c =
     let settings-is : (c.shape_ok-shape.result && c.parents_ok.result && c.ends_ok-ends.result) ≡ settings_ok c.args.settings = rw (c.shape_ok-shape.ensures, c.parents_ok.ensures, c.ends_ok-ends.ensures) in
     let settled : settings_ok c.args.settings ≡ true = sym (settings-is) ∙ c.if-not-shape-parents_ok.false in
     let sized : let a = c.args in ring_ok a.settings a.ring ≡ true = eq-eqb _ _ (c.if-ring-ring_size.false ∙ c.ring_size.ensures) in
-    let says : verdict c.threshold_verdict-threshold.result
+    let says : verdict c.threshold_verdict.result
     ≡ threshold_verdict c.args.settings.threshold = (let s = c.args.settings in
     let x : SFits w64 s.threshold = search rules in
-    c.threshold_verdict-threshold.ensures ∙ ap threshold_verdict (to_z-of_z x)) in
-    let taken : is_accepted (threshold_verdict c.args.settings.threshold) ≡ true = ap is_accepted (is-accepted _ _ (says) c.in-Accepted.is) in
+    c.threshold_verdict.ensures ∙ ap threshold_verdict (to_z-of_z x)) in
+    let taken : is_accepted (threshold_verdict c.args.settings.threshold) ≡ true = ap is_accepted (is-accepted _ _ (says) _ c.in_ok-threshold_verdict.was) in
     let limits-is : let s = c.args.settings in
     c.limits_ok.result ≡ limits_ok s.cap s.floor = (let s = c.args.settings in
     let x : SFits w32 s.cap = search rules in
     let y : SFits w32 s.floor = search rules in
     rw (to_z-of_z x, to_z-of_z y) at c.limits_ok.ensures) in
-    ap verdict c.in-Accepted.is
-    ∙ open-0 _ _ (settled) (sized) (taken) (sym (limits-is) ∙ c.if-not-limits_ok.false)
+    open-0 _ _ (settled) (sized) (taken) (sym (limits-is) ∙ c.if-not-limits_ok.false)

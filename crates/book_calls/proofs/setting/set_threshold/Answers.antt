@@ -12,15 +12,15 @@ pub returns-then-not-valid : goal.returns-then-not-valid
 unfolding set_threshold
 returns-then-not-valid c = rw (sym c.valid.ensures ∙ c.if-not-valid.true)
 
-pub returns-in-Refused : goal.returns-in-Refused
-returns-in-Refused c =
+pub returns-in-Err : goal.returns-in-Err
+returns-in-Err c =
     let ok : valid c.args.book ≡ true = sym c.valid.ensures ∙ c.if-not-valid.false in
     let says : verdict c.threshold_verdict-answer.result ≡ threshold_verdict c.args.threshold = c.threshold_verdict-answer.ensures ∙ ap threshold_verdict (to_z-of_z c.ranges.threshold) in
     let a = c.args in
-    threshold-refused a.book (ok) a.threshold _ (says) _ c.in-Refused.is
+    threshold-refused a.book (ok) a.threshold _ (says) _ c.in-Err.is
 
-pub returns-in-Accepted : goal.returns-in-Accepted
-returns-in-Accepted c =
+pub returns : goal.returns
+returns c =
     let ok : valid c.args.book ≡ true = sym c.valid.ensures ∙ c.if-not-valid.false in
     let says : verdict c.threshold_verdict-answer.result ≡ threshold_verdict c.args.threshold = c.threshold_verdict-answer.ensures ∙ ap threshold_verdict (to_z-of_z c.ranges.threshold) in
-    threshold-set c.args.book (ok) c.args.threshold _ (says) _ c.in-Accepted.is (to_z-of_z c.ranges.threshold)
+    threshold-set c.args.book (ok) c.args.threshold _ (says) _ c.in_default.is (to_z-of_z c.ranges.threshold)

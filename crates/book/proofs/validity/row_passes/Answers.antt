@@ -1,4 +1,4 @@
--- `book::validity::full_row` meets its contract. The loop's invariant: `ok` is the test of the markets passed. Assumes nothing.
+-- `book::validity::row_passes` meets its contract. The loop's invariant: `ok` is the test of the markets passed. Assumes nothing.
 use Prim.Native.Nat.{◌+◌}
 use native.Mathlib.Omega.{arith}
 use borrow.Author.Rules.{rules}
@@ -8,14 +8,13 @@ use mir.Facts.{to_z-of_z}
 use lib.IntN.{pos}
 use lib.ListN.{get_or}
 use Rattle.laws.proofs.Lists.{all_below-none, all_below-step}
-use Rattle.book.proofs.validity.full_row.Goals as goal
+use Rattle.book.proofs.validity.row_passes.Goals as goal
 
 pub loop-m-init : goal.loop-m-init
-loop-m-init c = (omega arith, all_below-none _)
+loop-m-init g c = (omega arith, all_below-none _)
 
 pub loop-m-preserved : goal.loop-m-preserved
-loop-m-preserved c =
+loop-m-preserved g c =
     let a = c.args in
-    let l = c.loop-m in
     let f : SFits w64 (get_or a.sums.now (a.from + c.loop-m.m) (pos 0)) = search rules in
     (omega arith, all_below-step _ _ c.loop-m.invariant.1 (rw (to_z-of_z f) at c.place_ok-ok.ensures))
