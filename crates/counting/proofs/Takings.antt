@@ -21,6 +21,7 @@ use Rattle.book.specs.Record.{markets_of, place_of, ring_size}
 use Rattle.book.specs.Validity.{used_place}
 use Rattle.book.proofs.Validities.{Valid, sum-at}
 use Rattle.publishing.specs.Entry.{Offer}
+use Rattle.counting.specs.declared.windows.Windows.{Windows}
 use Rattle.counting.specs.Windows.{joins, unmarked, joining, sum_after, sums_after, written, ring_after}
 use Rattle.counting.specs.Working.{place_in, ring_by, sums_by, RegionOk}
 use Rattle.counting.proofs.Picks.{next_row}
@@ -28,22 +29,28 @@ use Rattle.counting.proofs.Picks.{same-pick}
 use Rattle.counting.proofs.Stages.{staged, staged-old, staged-none, staged-step, staged-skip, staged_done}
 
 -- ---- within a region
-module _ (M W n r m : ℕ) (v : ℕ → ℤ) where
-  pub sum_kept : (sums : List ℤ) → get_or (puts sums (place_of r) v m) (place_of r m) (pos 0) ≡ get_or sums (place_of r m) (pos 0)
+module _ (w : Windows) (m : ℕ) (v : ℕ → ℤ) where
+  pub sum_kept : (sums : List ℤ) → get_or (puts sums (place_of w.region) v m) (place_of w.region m) (pos 0) ≡ get_or sums (place_of w.region m) (pos 0)
   sum_kept sums = get_or-puts-other _ _ _ m _ _ (λ i p e. omega arith)
 
-  pub ring-kept : (ring : List ℤ) → 0 < W → get_or (puts ring (place_in M W n r) v m) (place_in M W n r m) (pos 0) ≡ get_or ring (place_in M W n r m) (pos 0)
-  ring-kept ring h = get_or-puts-other _ _ _ m _ _ (λ i p e. let q : r * M + i < r * M + m = omega arith in omega (arith, mul-lt-mul_of_pos_right q h))
+  pub ring-kept : (ring : List ℤ) → 0 < w.window → get_or (puts ring (place_in w) v m) (place_in w m) (pos 0) ≡ get_or ring (place_in w m) (pos 0)
+  ring-kept ring h =
+      get_or-puts-other _ _ _ m _ _
+      (λ i p e. let q : w.region * w.markets + i < w.region * w.markets + m = omega arith in omega (arith, mul-lt-mul_of_pos_right q h))
 
 -- a market's next place lies within its region's windows
-pub place-within : (M W n r m : ℕ) → n < W → m < M → place_in M W n r m < (r * M + M) * W
-place-within M W n r m h l =
-    let q : r * M + m + 1 ≤ r * M + M = omega arith in
-    let e : (r * M + m + 1) * W ≡ (r * M + m) * W + W = rw add-one (omega (arith, suc-mul (r * M + m) W)) in
-    omega (arith, mul-le-mul_right W q)
+pub place-within : (w : Windows) (m : ℕ) → w.next < w.window → m < w.markets → place_in w m < (w.region * w.markets + w.markets) * w.window
+place-within w m h l =
+    let q : w.region * w.markets + m + 1 ≤ w.region * w.markets + w.markets = omega arith in
+    let e : (w.region * w.markets + m + 1) * w.window ≡ (w.region * w.markets + m) * w.window + w.window =
+    rw add-one (omega (arith, suc-mul (w.region * w.markets + m) w.window)) in
+    omega (arith, mul-le-mul_right w.window q)
 
-pub places-differ : (M W n r i j : ℕ) → n < W → place_in M W n r i ≡ place_in M W n r j → i ≡ j
-places-differ M W n r i j h e = let q = sym (flat-div (r * M + i) n W h) ∙ ap (λ (k : ℕ). k / W) e ∙ flat-div (r * M + j) n W h in omega arith
+pub places-differ : (w : Windows) (i j : ℕ) → w.next < w.window → place_in w i ≡ place_in w j → i ≡ j
+places-differ w i j h e =
+    let q =
+    sym (flat-div (w.region * w.markets + i) w.next w.window h) ∙ ap (λ (k : ℕ). k / w.window) e ∙ flat-div (w.region * w.markets + j) w.next w.window h in
+    omega arith
 
 -- ---- all regions
 module _ (b : Book) (ring : List ℤ) (o : Offer) where
@@ -103,8 +110,11 @@ module _ (b : Book) (v : Valid b) (ring : List ℤ) (o : Offer) (r : ℕ) (h : r
   abbrev next : ℕ
   next = get_or b.nexts r 0
 
+  abbrev w : Windows
+  w = record { region = r; markets = M; window = W; count = get_or b.counts r 0; next = next }
+
   abbrev at : ℕ → ℕ
-  at = place_in M W next r
+  at = place_in w
 
   -- the parts of a market's places
   place-parts : (m : ℕ) → m < M → (place_of r m / 11 ≡ r) × (place_of r m % 11 ≡ m) × (place_of r m < 88)
@@ -121,13 +131,13 @@ module _ (b : Book) (v : Valid b) (ring : List ℤ) (o : Offer) (r : ℕ) (h : r
   row_below = rw (← next_row r M) (mul-le-mul_right M (rw add-one h))
 
   at-below : (m : ℕ) → m < M → length ring ≡ ring_size b.regions b.services b.window → at m < length ring
-  at-below m l e = omega (arith, place-within M W next r m (v.next r h) l, mul-le-mul_right W row_below)
+  at-below m l e = omega (arith, place-within w m (v.next r h) l, mul-le-mul_right W row_below)
 
   -- a region's places are as they were until its turn
   sum_is : (m : ℕ) → m < M → get_or (sums_to b ring o r) (place_of r m) (pos 0) ≡ get_or b.sums (place_of r m) (pos 0)
   sum_is m l = let p = place-parts m l in staged-old (pos 0) 88 _ _ _ r (place_of r m) p.2 (omega (arith, p.0))
 
-  pub region-ok : (prices : ℕ) → prices ≡ b.regions * M → length ring ≡ ring_size b.regions b.services b.window → RegionOk M W next r prices (length ring) (sums_to b ring o r)
+  pub region-ok : (prices : ℕ) → prices ≡ b.regions * M → length ring ≡ ring_size b.regions b.services b.window → RegionOk w prices (length ring) (sums_to b ring o r)
   region-ok prices p e =
       record {
         region = omega (arith, v.regions);
@@ -144,10 +154,10 @@ module _ (b : Book) (v : Valid b) (ring : List ℤ) (o : Offer) (r : ℕ) (h : r
     ring-is m l = staged-old (pos 0) (length ring) _ _ _ r (at m) (at-below m l e) (omega (arith, (at-parts m l).2))
 
     abbrev sums' : List ℤ
-    sums' = sums_by M W (get_or b.counts r 0) next r o.prices (ring_to b ring o r) (sums_to b ring o r)
+    sums' = sums_by w o.prices (ring_to b ring o r) (sums_to b ring o r)
 
     abbrev ring' : List ℤ
-    ring' = ring_by M W next r o.prices (ring_to b ring o r)
+    ring' = ring_by w o.prices (ring_to b ring o r)
 
     sum-here : (m : ℕ) → m < M → get_or sums' (place_of r m) (pos 0) ≡ sum_then b ring o (place_of r m)
     sum-here m l =
@@ -170,7 +180,7 @@ module _ (b : Book) (v : Valid b) (ring : List ℤ) (o : Offer) (r : ℕ) (h : r
         (λ k p n. sum-missed k (λ m x z. n (ap (λ (y : ℕ). y / 11) z ∙ (place-parts m x).0)))
 
     price-here : (m : ℕ) → m < M → get_or ring' (at m) (pos 0) ≡ joining o (r * M + m)
-    price-here m l = get_or-puts-same _ _ _ M m (pos 0) l (rw (length_run _ (length ring) 0) (at-below m l e)) (λ i j x y q. places-differ M W next r i j (v.next r h) q)
+    price-here m l = get_or-puts-same _ _ _ M m (pos 0) l (rw (length_run _ (length ring) 0) (at-below m l e)) (λ i j x y q. places-differ w i j (v.next r h) q)
 
     price-missed : (i : ℕ) → ((m : ℕ) → m < M → i ≡ at m → ⊥) → get_or ring' i (pos 0) ≡ get_or (ring_to b ring o r) i (pos 0)
     price-missed i n = get_or-puts-other _ _ _ M i (pos 0) n
@@ -190,7 +200,7 @@ module _ (b : Book) (v : Valid b) (ring : List ℤ) (o : Offer) (r : ℕ) (h : r
 
   -- what a turn leaves of ring and sums that are as after the regions passed
   pub turned : length ring ≡ ring_size b.regions b.services b.window → (ring₁ ring₂ sums₁ sums₂ : List ℤ) → ring₁ ≡ ring_to b ring o r → sums₁ ≡ sums_to b ring o r → get_or o.marked r 0 ≡ 0
-      → ring₂ ≡ ring_by M W next r o.prices ring₁ → sums₂ ≡ sums_by M W (get_or b.counts r 0) next r o.prices ring₁ sums₁
+      → ring₂ ≡ ring_by w o.prices ring₁ → sums₂ ≡ sums_by w o.prices ring₁ sums₁
       → (ring₂ ≡ ring_to b ring o (r + 1)) × (sums₂ ≡ sums_to b ring o (r + 1))
   turned e ring₁ ring₂ sums₁ sums₂ x y z p q =
       let u = eq-eqb (get_or o.marked r 0) 0 z in

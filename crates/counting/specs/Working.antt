@@ -4,6 +4,7 @@ use Rattle.std.specs.Prelude.{◌≡◌, Bool, true, ◌&&◌, List, [], ℕ, �
 use Rattle.laws.specs.Base.{pick}
 use Rattle.laws.specs.Lists.{tabulate, puts}
 use Rattle.book.specs.declared.record.Book.{Book}
+use Rattle.counting.specs.declared.windows.Windows.{Windows}
 use Rattle.book.specs.Record.{table_size, ring_size, place_of}
 use Rattle.book.specs.Validity.{valid}
 use Rattle.publishing.specs.Entry.{Offer, Entry, offer_of, entry_of}
@@ -19,36 +20,36 @@ abbrev pub entering : List ℤ → List ℕ → Entry
 entering prices marked = entry_of 0 prices marked [] [] []
 
 -- a market's next place in the ring
-abbrev pub place_in : ℕ → ℕ → ℕ → ℕ → ℕ → ℕ
-place_in markets window next region market = (region * markets + market) * window + next
+abbrev pub place_in : Windows → ℕ → ℕ
+place_in w market = (w.region * w.markets + market) * w.window + w.next
 
 -- "the oldest leaves once W are counted"
-abbrev pub oldest : ℕ → ℕ → ℤ → ℤ
-oldest window count was = pick (ltb count window) (pos 0) was
+abbrev pub oldest : Windows → ℤ → ℤ
+oldest w was = pick (ltb w.count w.window) (pos 0) was
 
 -- one region's prices stored at its next places, and its sums
-abbrev pub ring_by : ℕ → ℕ → ℕ → ℕ → List ℤ → List ℤ → List ℤ
-ring_by markets window next region prices ring =
-    puts ring (place_in markets window next region) (λ m. get_or prices (region * markets + m) (pos 0)) markets
+abbrev pub joining_price : Windows → List ℤ → ℕ → ℤ
+joining_price w prices m = get_or prices (w.region * w.markets + m) (pos 0)
 
-abbrev pub sum_by : ℕ → ℕ → ℕ → ℕ → ℕ → List ℤ → List ℤ → List ℤ → ℕ → ℤ
-sum_by markets window count next region prices ring sums m =
-    get_or sums (place_of region m) (pos 0)
-    +ℤ (get_or prices (region * markets + m) (pos 0) -ℤ oldest window count (get_or ring (place_in markets window next region m) (pos 0)))
+abbrev pub ring_by : Windows → List ℤ → List ℤ → List ℤ
+ring_by w prices ring = puts ring (place_in w) (joining_price w prices) w.markets
 
-abbrev pub sums_by : ℕ → ℕ → ℕ → ℕ → ℕ → List ℤ → List ℤ → List ℤ → List ℤ
-sums_by markets window count next region prices ring sums =
-    puts sums (place_of region) (sum_by markets window count next region prices ring sums) markets
+abbrev pub sum_by : Windows → List ℤ → List ℤ → List ℤ → ℕ → ℤ
+sum_by w prices ring sums m =
+    get_or sums (place_of w.region m) (pos 0) +ℤ (joining_price w prices m -ℤ oldest w (get_or ring (place_in w m) (pos 0)))
+
+abbrev pub sums_by : Windows → List ℤ → List ℤ → List ℤ → List ℤ
+sums_by w prices ring sums = puts sums (place_of w.region) (sum_by w prices ring sums) w.markets
 
 -- what a region's taking asks: places within the lent slices, which are given by their lengths p and l, and sums s that rule 10
--- allows; M, W, n and r are markets, window, next place and region
-pub record RegionOk (M W n r p l : ℕ) (s : List ℤ) : Type 0 where
-  pub region : r < 8
-  pub markets : M ≤ 11
-  pub next : n < W
-  pub prices : r * M + M ≤ p
-  pub ring : (r * M + M) * W ≤ l
-  pub sums : (m : ℕ) → m < M → nat_abs (get_or s (place_of r m) (pos 0)) ≤ 20160000000
+-- allows
+pub record RegionOk (w : Windows) (p l : ℕ) (s : List ℤ) : Type 0 where
+  pub region : w.region < 8
+  pub markets : w.markets ≤ 11
+  pub next : w.next < w.window
+  pub prices : w.region * w.markets + w.markets ≤ p
+  pub ring : (w.region * w.markets + w.markets) * w.window ≤ l
+  pub sums : (m : ℕ) → m < w.markets → nat_abs (get_or s (place_of w.region m) (pos 0)) ≤ 20160000000
 
 -- what step 5 asks of the book and of the lengths of the ring, the prices and the marks
 pub record Takes (b : Book) (ring prices marked : ℕ) : Type 0 where

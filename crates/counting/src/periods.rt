@@ -31,14 +31,12 @@ pub fn marks_after(
     ensures { result ≡ marks_by n threshold last sums.now marks }
 {
     let mut after = marks;
-    let mut k: usize = 0;
-    while k < n {
+    for k in 0..n {
         if threshold < sums[k] {
             after[k] = 1;
         } else if last {
             after[k] = 0;
         }
-        k += 1;
     }
     after
 }

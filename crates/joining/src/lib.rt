@@ -2,7 +2,6 @@
 #![tactic(auto)]
 
 ghost use Rattle.std.specs.Prelude.{◌≡◌, ◌*◌, ◌≤◌, length, take};
-ghost use Rattle.laws.specs.Lists.{tabulate, puts};
 ghost use Rattle.joining.specs.Working.{joined_from};
 
 // The prices as an array.
@@ -11,11 +10,7 @@ fn copied(prices: &[i32]) -> [i32; 88]
     ensures { take (length prices.now) result ≡ prices.now }
 {
     let mut copy = [0i32; 88];
-    let mut q: usize = 0;
-    while q < prices.len() {
-        copy[q] = prices[q];
-        q += 1;
-    }
+    copy[..prices.len()].copy_from_slice(prices);
     copy
 }
 
@@ -32,13 +27,11 @@ pub fn joined_prices<'a>(
     ensures { take (regions * markets) result ≡ joined_from regions markets marks.now prices.now table.now }
 {
     let mut joined = copied(prices);
-    let mut r: usize = 0;
-    while r < regions {
+    for r in 0..regions {
         let q = r * markets;
         if marks[11 * r] != 1 {
             joined[q] = table[q];
         }
-        r += 1;
     }
     joined
 }

@@ -1,4 +1,5 @@
 -- Published prices stay within ±10,000,000 where the entry's do. Assumes nothing.
+use Rattle.std.specs.Prelude.{Option, Some, None}
 use mathlib.Core.Path.{◌≡◌, refl}
 use mathlib.Core.Bool.{Bool, true, false}
 use mathlib.Core.List.{List}
@@ -11,8 +12,6 @@ use Rattle.laws.specs.Base.{pick, min_z, max_z}
 use Rattle.laws.proofs.Integers.{integers, up, dn, le_order}
 use Rattle.laws.proofs.Tests.{and_left, and_right}
 use Rattle.pricing.specs.Holding.{held, is_energy, in_range}
-use Rattle.routes.specs.declared.Limit.{Limit}
-use Rattle.routes.specs.declared.Limit.TheVariants.{Open, Bound}
 use Rattle.publishing.specs.declared.Terms.{Terms}
 use Rattle.publishing.specs.Entry.{Offer, Entry, TermsOk, LinksOk, flat}
 use Rattle.publishing.specs.Effective.{is_marked, scheduled, effective}
@@ -112,8 +111,8 @@ module _ (t : Terms) (ok : TermsOk t) where
       price : Within 10000000 (capped t marks region market (effective t e.offer region market))
       price = capped-within marks region market (effective t e.offer region market) (effective-within e.offer region market h)
 
-      go : (c f : Limit) → limit true t marks e region ≡ c → limit false t marks e region ≡ f → Within 10000000 (at_least f (at_most c (capped t marks region market (effective t e.offer region market))))
-      go Open Open p q = price
-      go Open (Bound f) p q = least-within 10000000 _ f (floor-limit t ok marks e links region here q) price
-      go (Bound c) Open p q = most-within 10000000 _ c (cap-limit t ok marks e links region here p) price
-      go (Bound c) (Bound f) p q = least-within 10000000 _ f (floor-limit t ok marks e links region here q) (most-within 10000000 _ c (cap-limit t ok marks e links region here p) price)
+      go : (c f : Option ℤ) → limit true t marks e region ≡ c → limit false t marks e region ≡ f → Within 10000000 (at_least f (at_most c (capped t marks region market (effective t e.offer region market))))
+      go None None p q = price
+      go None (Some f) p q = least-within 10000000 _ f (floor-limit t ok marks e links region here q) price
+      go (Some c) None p q = most-within 10000000 _ c (cap-limit t ok marks e links region here p) price
+      go (Some c) (Some f) p q = least-within 10000000 _ f (floor-limit t ok marks e links region here q) (most-within 10000000 _ c (cap-limit t ok marks e links region here p) price)

@@ -1,5 +1,6 @@
 -- A cap limit and a floor limit never cross: the one is never below 0 and the other always, so the order in which they bind does not matter.
 -- Assumes nothing.
+use Rattle.std.specs.Prelude.{Option, Some, None}
 use mathlib.Core.Path.{◌≡◌, refl}
 use mathlib.Core.Bool.{Bool, true, false}
 use mathlib.Core.List.{List}
@@ -8,8 +9,6 @@ use lib.IntN.{ℤ, pos, negsuc}
 use lib.Signed.{le_z, ◌≤ℤ◌}
 use Rattle.laws.specs.Base.{pick, min_z, max_z}
 use Rattle.laws.proofs.Integers.{integers, le_order}
-use Rattle.routes.specs.declared.Limit.{Limit}
-use Rattle.routes.specs.declared.Limit.TheVariants.{Open, Bound}
 use Rattle.publishing.specs.declared.Terms.{Terms}
 use Rattle.publishing.specs.Entry.{Entry, TermsOk, LinksOk}
 use Rattle.publishing.specs.Bounds.{has_limit, limit, at_most, at_least}
@@ -30,14 +29,14 @@ either_order f c h k x = go (le_z x c) (le_z f x) (le_z f c) refl refl refl
     go false false true p q r = absurd (omega integers)
 
 module _ (t : Terms) (ok : TermsOk t) (marks : List ℕ) (e : Entry) (links : LinksOk t e.flows e.factors) (region : ℕ) (here : region < t.regions) where
-  pub cap-limit : {z : ℤ} → limit true t marks e region ≡ Bound z → pos 0 ≤ℤ z
+  pub cap-limit : {z : ℤ} → limit true t marks e region ≡ Some z → pos 0 ≤ℤ z
   unfolding limit
   cap-limit q =
       let w = in-cents-at (limit_by true t e.flows e.factors (has_limit true t marks e.offer) region) q in
       let a = cap-above t ok e.flows e.factors links (has_limit true t marks e.offer) region here w.1 in
       rw w.2 (cents-above w.0 (le_order _ _ (omega integers)))
 
-  pub floor-limit : {z : ℤ} → limit false t marks e region ≡ Bound z → z ≤ℤ negsuc 0
+  pub floor-limit : {z : ℤ} → limit false t marks e region ≡ Some z → z ≤ℤ negsuc 0
   unfolding limit
   floor-limit q =
       let w = in-cents-at (limit_by false t e.flows e.factors (has_limit false t marks e.offer) region) q in
@@ -47,7 +46,7 @@ module _ (t : Terms) (ok : TermsOk t) (marks : List ℕ) (e : Entry) (links : Li
   unfolding at_most at_least
   never-cross x = go (limit true t marks e region) (limit false t marks e region) refl refl
     where
-      go : (c f : Limit) → limit true t marks e region ≡ c → limit false t marks e region ≡ f → at_least f (at_most c x) ≡ at_most c (at_least f x)
-      go Open f p q = refl
-      go (Bound c) Open p q = refl
-      go (Bound c) (Bound f) p q = either_order f c (cap-limit p) (floor-limit q) x
+      go : (c f : Option ℤ) → limit true t marks e region ≡ c → limit false t marks e region ≡ f → at_least f (at_most c x) ≡ at_most c (at_least f x)
+      go None f p q = refl
+      go (Some c) None p q = refl
+      go (Some c) (Some f) p q = either_order f c (cap-limit p) (floor-limit q) x

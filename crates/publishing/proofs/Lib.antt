@@ -1,4 +1,6 @@
 pub mod Places
+pub mod Changes
+pub mod Ranges
 pub mod Limits
 pub mod Regions
 pub mod Crossing

@@ -31,5 +31,11 @@ module _ (t : Terms) (ok : TermsOk t) where
         (flat-lt (flat t region market) kind (t.regions * t.markets) 2 flat_in k)
         ((div-lt_iff_lt-mul six).1 p)
 
+    -- the place of a number of the schedule, small enough for any arithmetic on it
+    pub schedule-small : (kind : ℕ) → kind < 2 → schedule_place t kind region market < 8448
+    schedule-small kind k =
+        let n : t.regions * t.markets * 2 ≤ 176 = omega (arith, size_small) in
+        omega (arith, schedule-in kind k, mul-le-mul n ok.halves)
+
 pub count_fits : {n x : ℕ} (test : ℕ → Bool) → x ≡ count_below n test → n ≤ 88 → Fits w32 x
 count_fits {n} test e h = record { fits = omega (arith, count_below-most n test) }

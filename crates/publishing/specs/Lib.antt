@@ -1,4 +1,5 @@
 pub mod Entry
+pub mod Basis
 pub mod Effective
 pub mod Capped
 pub mod Bounds

@@ -11,14 +11,15 @@ ghost use Rattle.pricing.specs.Passing.{fine};
 ghost use Rattle.publishing.specs.Entry.{offer_of, entry_of, network_of, TermsOk, OfferOk, LinksOk};
 ghost use Rattle.publishing.specs.Effective.{scheduled, effective};
 ghost use Rattle.publishing.specs.Capped.{administered, any_administered, capped_by};
-ghost use Rattle.publishing.specs.Bounds.{has_limit, in_cents};
+ghost use Rattle.publishing.specs.Bounds.{has_limit, in_cents, at_most, at_least};
 ghost use Rattle.publishing.specs.Published.{table_of, count_of};
-ghost use Rattle.publishing.specs.Working.{Fine, bound_of, sources, bounds_of, published_by, region_prices, region_count};
+ghost use Rattle.publishing.specs.Working.{Fine, sources, bounds_of, published_by, region_prices, region_count};
 
-use routes::{Limit, Network};
+use routes::{LinkFlows, Network};
+use std::marker::Model;
 
 // What the book brings to an interval: its shape, its limits and the position. `markets` is M, services and energy; `from` and `to`
-// are the ends of the additional link, or 255.
+// are the ends of the additional link, or 255. Kept: `terms_of` of entries, which reads the record, says so.
 #[derive(Clone, Copy)]
 pub struct Terms {
     pub regions: usize,
@@ -32,44 +33,27 @@ pub struct Terms {
     pub floor: i32,
 }
 
-// The number of a schedule, held within the limits of its market.
-fn scheduled(
+// What an interval's prices are made from: the terms and the period marks before the entry, and of the entry the day kind, the prices,
+// the marks and the schedule. A contract sees it as a Basis.
+#[derive(Drop)]
+struct Interval<'a> {
     terms: Terms,
+    marks: &'a [u8; 88],
     kind: usize,
-    prices: &[i32],
-    marked: &[u8],
-    schedule: &[i32],
-    region: usize,
-    market: usize,
-) -> i32
-    requires terms_ok { TermsOk terms × OfferOk terms (offer_of kind prices.now marked.now schedule.now) }
-    requires region_lt_regions { (region < terms.regions) × (market < terms.markets) }
-    ensures { result ≡ scheduled terms (offer_of kind prices.now marked.now schedule.now) region market }
-{
-    let at = ((region * terms.markets + market) * 2 + kind) * terms.halves + terms.position / 6;
-    let low = pricing::holding::lowest(market, terms.floor);
-    pricing::holding::held(schedule[at], low, terms.cap)
+    prices: &'a [i32],
+    marked: &'a [u8],
+    schedule: &'a [i32],
 }
 
-// Step 1.
-fn effective(
-    terms: Terms,
-    kind: usize,
-    prices: &[i32],
-    marked: &[u8],
-    schedule: &[i32],
-    region: usize,
-    market: usize,
-) -> i32
-    requires terms_ok { TermsOk terms × OfferOk terms (offer_of kind prices.now marked.now schedule.now) }
-    requires region_lt_regions { (region < terms.regions) × (market < terms.markets) }
-    ensures { result ≡ effective terms (offer_of kind prices.now marked.now schedule.now) region market }
-{
-    if marked[region] == 1 {
-        scheduled(terms, kind, prices, marked, schedule, region, market)
-    } else {
-        prices[region * terms.markets + market]
-    }
+impl<'a> Model for Interval<'a> {
+    ghost use Rattle.publishing.specs.Entry.{offer_of, TermsOk, OfferOk};
+    ghost use Rattle.publishing.specs.Basis.{Basis};
+
+    ghost Value = { Basis };
+
+    ghost view = { λ a. record { terms = a.terms; marks = a.marks.now; offer = offer_of a.kind a.prices.now a.marked.now a.schedule.now } };
+
+    ghost invariant = { λ a. TermsOk a.terms × OfferOk a.terms (offer_of a.kind a.prices.now a.marked.now a.schedule.now) };
 }
 
 fn administered(marks: &[u8; 88], region: usize, market: usize) -> bool
@@ -77,19 +61,6 @@ fn administered(marks: &[u8; 88], region: usize, market: usize) -> bool
     ensures { result ≡ administered marks.now region market }
 {
     marks[11 * region + market] == 1
-}
-
-fn any_administered(terms: Terms, marks: &[u8; 88], region: usize) -> bool
-    requires { (region < 8) × (terms.markets ≤ 11) }
-    ensures { result ≡ any_administered terms marks.now region }
-{
-    let mut any = false;
-    let mut m: usize = 0;
-    while m < terms.markets {
-        any = any | administered(marks, region, m);
-        m += 1;
-    }
-    any
 }
 
 // A service's price: at most the cap where any market of its region is administered.
@@ -107,6 +78,7 @@ fn at_cap(any: bool, cap: i32, price: i32) -> i32
 fn capped(market: usize, energy: bool, any: bool, floor: i32, cap: i32, price: i32) -> i32
     ensures { result ≡ capped_by energy any floor cap market price }
 {
+    // Kept: a range case on the market, the form that document 01 names.
     match market {
         0 => if energy {
             pricing::holding::held(price, floor, cap)
@@ -118,73 +90,13 @@ fn capped(market: usize, energy: bool, any: bool, floor: i32, cap: i32, price: i
     }
 }
 
-// Step 3: whether a region has a limit of its own, at the cap or at the floor.
-fn has_limit(
-    caps: bool,
-    terms: Terms,
-    marks: &[u8; 88],
-    kind: usize,
-    prices: &[i32],
-    marked: &[u8],
-    schedule: &[i32],
-    region: usize,
-) -> bool
-    requires terms_ok { TermsOk terms × OfferOk terms (offer_of kind prices.now marked.now schedule.now) }
-    requires region_lt_regions { region < terms.regions }
-    ensures { result ≡ has_limit caps terms marks.now (offer_of kind prices.now marked.now schedule.now) region }
-{
-    let energy = administered(marks, region, 0);
-    let price = effective(terms, kind, prices, marked, schedule, region, 0);
-    if caps {
-        energy & (terms.cap <= price)
-    } else {
-        energy & (price <= terms.floor)
-    }
-}
-
-// The regions that have a limit of their own.
-fn sources(
-    caps: bool,
-    terms: Terms,
-    marks: &[u8; 88],
-    kind: usize,
-    prices: &[i32],
-    marked: &[u8],
-    schedule: &[i32],
-) -> [bool; 8]
-    requires { TermsOk terms × OfferOk terms (offer_of kind prices.now marked.now schedule.now) }
-    ensures { result ≡ sources caps terms marks.now (offer_of kind prices.now marked.now schedule.now) }
-{
-    let mut all = [false; 8];
-    let mut r: usize = 0;
-    while r < terms.regions {
-        all[r] = has_limit(caps, terms, marks, kind, prices, marked, schedule, r);
-        r += 1;
-    }
-    all
-}
-
-fn any_source(sources: [bool; 8]) -> bool
-    ensures { result ≡ any_below 8 (λ x. get_or sources x false) }
-{
-    let mut any = false;
-    let mut r: usize = 0;
-    while r < 8 {
-        any = any | sources[r];
-        r += 1;
-    }
-    any
-}
-
-// A limit, in ten-thousandths of a cent, as a number of cents that binds a price in the same way.
-fn bound_of(caps: bool, limit: Limit) -> i32
+// A limit in ten-thousandths of a cent, as it binds.
+fn in_cents(limit: Option<i64>) -> Option<i32>
     requires { Fine limit }
-    ensures { result ≡ bound_of caps (in_cents limit) }
+    ensures { result ≡ in_cents limit }
 {
-    match limit {
-        Limit::Open => if caps { 2147483647 } else { -2147483648 },
-        Limit::Bound(z) => pricing::carrying::cents(z) as i32,
-    }
+    let z = limit?;
+    Some(pricing::carrying::cents(z) as i32)
 }
 
 // The limit of a source, in ten-thousandths of a cent.
@@ -198,7 +110,7 @@ fn source_limit(caps: bool, cap: i32, floor: i32) -> i64
     }
 }
 
-// The links of the terms' regions.
+// The links of the terms' regions. Kept: the definitions name `network_of` too, and a From would be no shorter.
 fn network_of(terms: Terms) -> Network
     ensures { result ≡ network_of terms }
 {
@@ -211,28 +123,47 @@ fn network_of(terms: Terms) -> Network
     }
 }
 
-// Step 4: the limit that binds each region's energy, as a number. Without a source no limit travels.
-fn bounds(caps: bool, terms: Terms, sources: [bool; 8], flows: &[i32], factors: &[u32]) -> [i32; 8]
+// Step 4: the limit that binds each region's energy. Without a source no limit travels.
+fn bounds(
+    caps: bool,
+    terms: Terms,
+    sources: [bool; 8],
+    flows: &[i32],
+    factors: &[u32],
+) -> [Option<i32>; 8]
     requires { TermsOk terms × LinksOk terms flows.now factors.now }
     ensures { result ≡ bounds_of caps terms sources flows.now factors.now }
 {
-    let open = bound_of(caps, Limit::Open);
-    let mut all = [open; 8];
-    if !any_source(sources) {
+    let mut all = [None; 8];
+    if sources == [false; 8] {
         return all;
     }
-    let network = network_of(terms);
-    let powers = routes::powers(network, flows, factors);
+    let links = LinkFlows {
+        network: network_of(terms),
+        flows,
+        factors,
+    };
+    let powers = links.powers();
     let source = source_limit(caps, terms.cap, terms.floor);
-    let mut r: usize = 0;
-    while r < terms.regions {
-        all[r] = bound_of(
-            caps,
-            routes::limit_of(caps, &powers, terms.regions, sources, source, r),
-        );
-        r += 1;
+    for r in 0..terms.regions {
+        let limit = routes::limit_of(caps, &powers, terms.regions, sources, source, r);
+        all[r] = in_cents(limit);
     }
     all
+}
+
+// Step 4: a cap limit binds from above, a floor limit from below.
+fn bind(caps: bool, limit: Option<i32>, price: i32) -> i32
+    ensures { result ≡ pick caps (at_most limit price) (at_least limit price) }
+{
+    match limit {
+        None => price,
+        Some(z) => if caps {
+            pricing::holding::at_most(price, z)
+        } else {
+            pricing::holding::at_least(z, price)
+        },
+    }
 }
 
 // Steps 2 and 4 at a market whose effective price is `price`: `top` and `bottom` bind energy alone.
@@ -242,59 +173,103 @@ fn published(
     any: bool,
     floor: i32,
     cap: i32,
-    top: i32,
-    bottom: i32,
+    top: Option<i32>,
+    bottom: Option<i32>,
     price: i32,
 ) -> i32
     ensures { result ≡ published_by energy any floor cap top bottom market price }
 {
     let held = capped(market, energy, any, floor, cap, price);
+    // Kept: a range case on the market, the form that document 01 names.
     match market {
-        0 => pricing::holding::at_least(bottom, pricing::holding::at_most(held, top)),
+        0 => bind(false, bottom, bind(true, top, held)),
         1..=10 => held,
         _ => held,
     }
 }
 
-fn one_if(test: bool) -> u32
-    ensures { result ≡ pick test 1 0 }
-{
-    if test { 1 } else { 0 }
-}
-
-// The prices of one region into the table, with the bounds of its energy; answers how many of them changed. That the
-// effective prices fit is told on, since a caller needs it to see that the bounds bind as the limits do.
-fn publish_region(
-    terms: Terms,
-    marks: &[u8; 88],
-    kind: usize,
-    prices: &[i32],
-    marked: &[u8],
-    schedule: &[i32],
-    top: i32,
-    bottom: i32,
-    region: usize,
-    table: &mut [i32],
-) -> u32
-    requires terms_ok { TermsOk terms × OfferOk terms (offer_of kind prices.now marked.now schedule.now) }
-    requires region_lt_regions { (region < terms.regions) × (length table.old ≡ terms.regions * terms.markets) }
-    ensures value { result ≡ region_count terms marks.now (offer_of kind prices.now marked.now schedule.now) top bottom region }
-    ensures table_after { table.new ≡ sets table.old (region * terms.markets) (region_prices terms marks.now (offer_of kind prices.now marked.now schedule.now) top bottom region) }
-    ensures by_index { (m : ℕ) → m < terms.markets → SFits w32 (effective terms (offer_of kind prices.now marked.now schedule.now) region m) }
-{
-    let energy = administered(marks, region, 0);
-    let any = any_administered(terms, marks, region);
-    let from = region * terms.markets;
-    let mut count: u32 = 0;
-    let mut m: usize = 0;
-    while m < terms.markets {
-        let was = effective(terms, kind, prices, marked, schedule, region, m);
-        let price = published(m, energy, any, terms.floor, terms.cap, top, bottom, was);
-        table[from + m] = price;
-        count += one_if((price < was) | (was < price));
-        m += 1;
+impl<'a> Interval<'a> {
+    // The number of a schedule, held within the limits of its market.
+    fn scheduled(&self, region: usize, market: usize) -> i32
+        requires { (region < self.now.terms.regions) × (market < self.now.terms.markets) }
+        ensures { result ≡ scheduled self.now.terms self.now.offer region market }
+    {
+        let terms = self.terms;
+        let at = ((region * terms.markets + market) * 2 + self.kind) * terms.halves
+            + terms.position / 6;
+        let low = pricing::holding::lowest(market, terms.floor);
+        pricing::holding::held(self.schedule[at], low, terms.cap)
     }
-    count
+
+    // Step 1.
+    fn effective(&self, region: usize, market: usize) -> i32
+        requires { (region < self.now.terms.regions) × (market < self.now.terms.markets) }
+        ensures { result ≡ effective self.now.terms self.now.offer region market }
+    {
+        if self.marked[region] == 1 {
+            self.scheduled(region, market)
+        } else {
+            self.prices[region * self.terms.markets + market]
+        }
+    }
+
+    fn any_administered(&self, region: usize) -> bool
+        requires { region < self.now.terms.regions }
+        ensures { result ≡ any_administered self.now.terms self.now.marks region }
+    {
+        (0..self.terms.markets).any(|m| administered(self.marks, region, m))
+    }
+
+    // Step 3: whether a region has a limit of its own, at the cap or at the floor.
+    fn has_limit(&self, caps: bool, region: usize) -> bool
+        requires { region < self.now.terms.regions }
+        ensures { result ≡ has_limit caps self.now.terms self.now.marks self.now.offer region }
+    {
+        let energy = administered(self.marks, region, 0);
+        let price = self.effective(region, 0);
+        if caps {
+            energy & (self.terms.cap <= price)
+        } else {
+            energy & (price <= self.terms.floor)
+        }
+    }
+
+    // The regions that have a limit of their own.
+    fn sources(&self, caps: bool) -> [bool; 8]
+        ensures { result ≡ sources caps self.now.terms self.now.marks self.now.offer }
+    {
+        let mut all = [false; 8];
+        for r in 0..self.terms.regions {
+            all[r] = self.has_limit(caps, r);
+        }
+        all
+    }
+
+    // The prices of one region into the table, with the bounds of its energy; answers how many of them changed.
+    fn publish_region(
+        &self,
+        top: Option<i32>,
+        bottom: Option<i32>,
+        region: usize,
+        table: &mut [i32],
+    ) -> u32
+        requires { (region < self.now.terms.regions) × (length table.old ≡ self.now.terms.regions * self.now.terms.markets) }
+        ensures value { result ≡ region_count self.now.terms self.now.marks self.now.offer top bottom region }
+        ensures table_after { table.new ≡ sets table.old (region * self.now.terms.markets) (region_prices self.now.terms self.now.marks self.now.offer top bottom region) }
+    {
+        let terms = self.terms;
+        let energy = administered(self.marks, region, 0);
+        let any = self.any_administered(region);
+        let from = region * terms.markets;
+        let mut count: u32 = 0;
+        for m in 0..terms.markets {
+            let was = self.effective(region, m);
+            let price = published(m, energy, any, terms.floor, terms.cap, top, bottom, was);
+            table[from + m] = price;
+            count += u32::from(price != was);
+        }
+        count
+    }
 }
 
 // Steps 1 to 4: the table, and how many of its prices differ from the effective ones.
@@ -314,19 +289,23 @@ pub fn publish(
     ensures value { result ≡ count_of terms marks.now (entry_of kind prices.now marked.now flows.now factors.now schedule.now) }
     ensures table_after { table.new ≡ table_of terms marks.now (entry_of kind prices.now marked.now flows.now factors.now schedule.now) }
 {
-    let caps = sources(true, terms, marks, kind, prices, marked, schedule);
-    let floors = sources(false, terms, marks, kind, prices, marked, schedule);
+    let interval = Interval {
+        terms,
+        marks,
+        kind,
+        prices,
+        marked,
+        schedule,
+    };
+    let caps = interval.sources(true);
+    let floors = interval.sources(false);
     let tops = bounds(true, terms, caps, flows, factors);
     let bottoms = bounds(false, terms, floors, flows, factors);
     let mut count: u32 = 0;
-    let mut r: usize = 0;
-    while r < terms.regions {
+    for r in 0..terms.regions {
         let top = tops[r];
         let bottom = bottoms[r];
-        count += publish_region(
-            terms, marks, kind, prices, marked, schedule, top, bottom, r, table,
-        );
-        r += 1;
+        count += interval.publish_region(top, bottom, r, table);
     }
     count
 }

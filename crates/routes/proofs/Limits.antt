@@ -1,5 +1,6 @@
 -- Laws of limits and of the search for one, a law for each way through the code. Assumes nothing.
-use mathlib.Core.Path.{◌≡◌, refl, sym, ap, subst, ◌∙◌}
+use Rattle.std.specs.Prelude.{Option, Some, None}
+use mathlib.Core.Path.{◌≡◌, refl, ap, ◌∙◌}
 use mathlib.Core.Bool.{Bool, true, false, beq}
 use mathlib.Core.List.{List}
 use Prim.Native.Nat.{ℕ, zero, suc, ◌+◌, ◌-◌, ◌<◌}
@@ -11,34 +12,17 @@ use lib.IntN.{ℤ}
 use lib.Signed.{le_z}
 use Rattle.laws.specs.Base.{pick, min_z, max_z}
 use Rattle.pricing.specs.Carrying.{carried}
-use Rattle.routes.specs.declared.Limit.{Limit}
-use Rattle.routes.specs.declared.Limit.TheVariants.{Open, Bound}
 use Rattle.routes.specs.Limits.{tighter, over}
 use Rattle.routes.specs.Links.{step}
 use Rattle.routes.specs.Search.{tightest, limit_from}
 
--- ---- no limit and a limit are two things, and a limit is its number
-abbrev IsBound : Limit → Type 0
-IsBound Open = ⊥
-IsBound (Bound z) = Unit {0}
-
-pub open-not : {z : ℤ} → Open ≡ Bound z → ⊥
-open-not e = subst IsBound (sym e) tt
-
-abbrev number_in : ℤ → Limit → ℤ
-number_in d Open = d
-number_in d (Bound z) = z
-
-pub bound-same : {y z : ℤ} → Bound y ≡ Bound z → y ≡ z
-bound-same {y} e = ap (number_in y) e
-
 -- ---- the tighter of two
-module _ (caps : Bool) {a b : Limit} where
-  pub tight-open : a ≡ Open → b ≡ tighter caps a b
+module _ (caps : Bool) {a b : Option ℤ} where
+  pub tight-open : a ≡ None → b ≡ tighter caps a b
   unfolding tighter
   tight-open e = rw e
 
-  pub tight-bound : {x : ℤ} → a ≡ Bound x → b ≡ Open → Bound x ≡ tighter caps a b
+  pub tight-bound : {x : ℤ} → a ≡ Some x → b ≡ None → Some x ≡ tighter caps a b
   unfolding tighter
   tight-bound e f = rw (e, f)
 
@@ -49,43 +33,43 @@ tight-pick true false x y e = rw e
 tight-pick false true x y e = rw e
 tight-pick false false x y e = rw e
 
-pub tight-both : (caps : Bool) {a b : Limit} {x y : ℤ} → a ≡ Bound x → b ≡ Bound y → Bound (pick (beq (le_z x y) caps) x y) ≡ tighter caps a b
+pub tight-both : (caps : Bool) {a b : Option ℤ} {x y : ℤ} → a ≡ Some x → b ≡ Some y → Some (pick (beq (le_z x y) caps) x y) ≡ tighter caps a b
 unfolding tighter
-tight-both caps {x = x} {y = y} e f = rw (e, f) (ap Bound (tight-pick caps (le_z x y) x y refl))
+tight-both caps {x = x} {y = y} e f = rw (e, f) (ap Some (tight-pick caps (le_z x y) x y refl))
 
-pub tight-none : (caps : Bool) (a : Limit) → a ≡ tighter caps a Open
+pub tight-none : (caps : Bool) (a : Option ℤ) → a ≡ tighter caps a None
 unfolding tighter
-tight-none caps Open = refl
-tight-none caps (Bound x) = refl
+tight-none caps None = refl
+tight-none caps (Some x) = refl
 
 -- ---- over a link
-module _ (caps : Bool) (f : ℕ) {l : Limit} where
-  pub over_none : l ≡ Open → Open ≡ over caps f l
+module _ (caps : Bool) (f : ℕ) {l : Option ℤ} where
+  pub over_none : l ≡ None → None ≡ over caps f l
   unfolding over
   over_none e = rw e
 
-  pub over_zero : {z : ℤ} → l ≡ Bound z → f ≡ 0 → Open ≡ over caps f l
+  pub over_zero : {z : ℤ} → l ≡ Some z → f ≡ 0 → None ≡ over caps f l
   unfolding over
   over_zero e h = rw (e, eq-eqb f 0 h)
 
-  pub over-at : {z : ℤ} → l ≡ Bound z → (f ≡ 0 → ⊥) → Bound (carried caps f z) ≡ over caps f l
+  pub over-at : {z : ℤ} → l ≡ Some z → (f ≡ 0 → ⊥) → Some (carried caps f z) ≡ over caps f l
   unfolding over
   over-at e h = rw (e, ne_eqb f 0 h)
 
-over-0 : (caps : Bool) (l : Limit) → over caps 0 l ≡ Open
+over-0 : (caps : Bool) (l : Option ℤ) → over caps 0 l ≡ None
 unfolding over
-over-0 caps Open = refl
-over-0 caps (Bound z) = refl
+over-0 caps None = refl
+over-0 caps (Some z) = refl
 
 -- ---- the search: what region y adds to the limit of x
-abbrev pub reached : Bool → (ℕ → ℕ → ℕ) → (ℕ → Limit) → ℕ → ℕ → List Bool → ℕ → ℕ → Limit
-reached caps power own R left seen x y = pick (get_or seen y false) Open (over caps (step caps power x y) (limit_from caps power own R left seen y))
+abbrev pub reached : Bool → (ℕ → ℕ → ℕ) → (ℕ → Option ℤ) → ℕ → ℕ → List Bool → ℕ → ℕ → Option ℤ
+reached caps power own R left seen x y = pick (get_or seen y false) None (over caps (step caps power x y) (limit_from caps power own R left seen y))
 
-pub tightest-none : (caps : Bool) (f : ℕ → Limit) (l : Limit) → l ≡ tightest caps f l 0
+pub tightest-none : (caps : Bool) (f : ℕ → Option ℤ) (l : Option ℤ) → l ≡ tightest caps f l 0
 unfolding tightest
 tightest-none caps f l = refl
 
-module _ (caps : Bool) (power : ℕ → ℕ → ℕ) (own : ℕ → Limit) (R : ℕ) where
+module _ (caps : Bool) (power : ℕ → ℕ → ℕ) (own : ℕ → Option ℤ) (R : ℕ) where
   pub limit-end : (left : ℕ) (seen : List Bool) (x : ℕ) → left ≡ 0 → own x ≡ limit_from caps power own R left seen x
   unfolding limit_from
   limit-end zero seen x e = refl
@@ -97,7 +81,7 @@ module _ (caps : Bool) (power : ℕ → ℕ → ℕ) (own : ℕ → Limit) (R : 
   limit-step (suc k) seen x h = let e : suc k - 1 ≡ k = omega arith in simp e
 
   -- one region more: it was seen, no power goes that way, or its limit comes over the link
-  module _ (left : ℕ) (seen : List Bool) (x y : ℕ) (l : Limit) {best : Limit} (i : best ≡ tightest caps (reached caps power own R left seen x) l y) where
+  module _ (left : ℕ) (seen : List Bool) (x y : ℕ) (l : Option ℤ) {best : Option ℤ} (i : best ≡ tightest caps (reached caps power own R left seen x) l y) where
     pub turn-seen : get_or seen y false ≡ true → best ≡ tightest caps (reached caps power own R left seen x) l (y + 1)
     unfolding tightest
     turn-seen e = rw (add-one, e) (i ∙ tight-none caps _)
@@ -106,18 +90,18 @@ module _ (caps : Bool) (power : ℕ → ℕ → ℕ) (own : ℕ → Limit) (R : 
     unfolding tightest
     turn-none e f z = let h : step caps power x y ≡ 0 = cc in rw (add-one, e, h, over-0) (i ∙ tight-none caps _)
 
-    pub turn-over : {found other : Limit} {factor : ℕ} → get_or seen y false ≡ false → factor ≡ step caps power x y → found ≡ limit_from caps power own R left seen y → other ≡ over caps factor found
+    pub turn-over : {found other : Option ℤ} {factor : ℕ} → get_or seen y false ≡ false → factor ≡ step caps power x y → found ≡ limit_from caps power own R left seen y → other ≡ over caps factor found
         → tighter caps best other ≡ tightest caps (reached caps power own R left seen x) l (y + 1)
     unfolding tightest
     turn-over e f g o = rw (add-one, e, o, g, f, i)
 
 -- ---- the search looks at no power but between regions, and at no own limit but theirs
-tightest-same : (caps : Bool) (f g : ℕ → Limit) (l : Limit) (n : ℕ) → ((y : ℕ) → y < n → f y ≡ g y) → tightest caps f l n ≡ tightest caps g l n
+tightest-same : (caps : Bool) (f g : ℕ → Option ℤ) (l : Option ℤ) (n : ℕ) → ((y : ℕ) → y < n → f y ≡ g y) → tightest caps f l n ≡ tightest caps g l n
 unfolding tightest
 tightest-same caps f g l zero h = refl
 tightest-same caps f g l (suc n) h = rw (tightest-same caps f g l n (λ y p. h y (omega arith)), h n (omega arith))
 
-pub search-same : (caps : Bool) (power other : ℕ → ℕ → ℕ) (own mine : ℕ → Limit) (R : ℕ) → ((x y : ℕ) → x < R → y < R → power x y ≡ other x y) → ((x : ℕ) → x < R → own x ≡ mine x)
+pub search-same : (caps : Bool) (power other : ℕ → ℕ → ℕ) (own mine : ℕ → Option ℤ) (R : ℕ) → ((x y : ℕ) → x < R → y < R → power x y ≡ other x y) → ((x : ℕ) → x < R → own x ≡ mine x)
     → (left : ℕ) (seen : List Bool) (x : ℕ) → x < R → limit_from caps power own R left seen x ≡ limit_from caps other mine R left seen x
 unfolding limit_from
 search-same caps power other own mine R h o zero seen x i = o x i

@@ -1,5 +1,6 @@
 -- The power between regions: the table has it at its place, its factors are those of links, and of a region without a parent nothing is looked at.
 -- Assumes nothing.
+use Rattle.std.specs.Prelude.{Option}
 use mathlib.Core.Path.{◌≡◌, refl, ap, ◌∙◌}
 use mathlib.Core.Bool.{Bool, true, false, ◌&&◌}
 use mathlib.Core.List.{List}
@@ -14,7 +15,6 @@ use Rattle.laws.specs.Base.{pick}
 use Rattle.laws.proofs.Lists.{get_or-tabulate}
 use Rattle.laws.proofs.Tests.{and_left}
 use Rattle.pricing.specs.Carrying.{Factor}
-use Rattle.routes.specs.declared.Limit.{Limit}
 use Rattle.routes.specs.declared.Network.{Network}
 use Rattle.routes.specs.Links.{last_flow, last_factor, extra_of, power_of, power_at, powers_of}
 use Rattle.routes.specs.Routes.{limit_of}
@@ -44,7 +44,7 @@ module _ (l : Network) (flows : List ℤ) (factors : List ℕ) (few : l.regions 
       let m : (8 * x + y) % 8 ≡ y = omega arith in
       get_or-tabulate (power_at l flows factors) 64 (8 * x + y) 0 (omega arith) ∙ rw (d, m, lt-ltb x l.regions i, lt-ltb y l.regions j)
 
-  pub limit-table : (caps : Bool) (own : ℕ → Limit) (x : ℕ) → x < l.regions
+  pub limit-table : (caps : Bool) (own : ℕ → Option ℤ) (x : ℕ) → x < l.regions
       → limit_of caps (λ x y. get_or (powers_of l flows factors) (8 * x + y) 0) own l.regions x ≡ limit_of caps (power_of l flows factors) own l.regions x
   limit-table caps own x i = limit-same caps _ _ own own l.regions power-table (λ y j. refl) x i
 

@@ -1,12 +1,11 @@
 -- The search finds the limit over every route, and that limit looks at nothing but the regions and the powers between them. Assumes nothing.
+use Rattle.std.specs.Prelude.{ℤ, Option, None}
 use mathlib.Core.Path.{◌≡◌, refl, sym, ap, ◌∙◌}
 use mathlib.Core.Bool.{Bool, true, false}
 use mathlib.Core.List.{List, [], ◌∷◌, ◌++◌}
 use Prim.Native.Nat.{ℕ, zero, suc, ◌-◌, ◌<◌}
 use lib.ListN.{get_or, set}
 use Rattle.laws.specs.Base.{pick}
-use Rattle.routes.specs.declared.Limit.{Limit}
-use Rattle.routes.specs.declared.Limit.TheVariants.{Open}
 use Rattle.routes.specs.Limits.{tighter, over}
 use Rattle.routes.specs.Links.{step}
 use Rattle.routes.specs.Routes.{along, joined, after, routes_from, over_all, unseen, limit_of}
@@ -14,7 +13,7 @@ use Rattle.routes.specs.Search.{tightest, limit_from}
 use Rattle.routes.proofs.Limits.{tight-none, search-same}
 use Rattle.routes.proofs.Carries.{over-tighter, tighter-assoc}
 
-module _ (caps : Bool) (power : ℕ → ℕ → ℕ) (own : ℕ → Limit) where
+module _ (caps : Bool) (power : ℕ → ℕ → ℕ) (own : ℕ → Option ℤ) where
   over-append : (x : ℕ) (a b : List (List ℕ)) → over_all caps power own x (a ++ b) ≡ tighter caps (over_all caps power own x a) (over_all caps power own x b)
   unfolding over_all tighter
   over-append x [] b = refl
@@ -25,7 +24,7 @@ module _ (caps : Bool) (power : ℕ → ℕ → ℕ) (own : ℕ → Limit) where
   over-after x y [] = refl
   over-after x y (r ∷ rs) = rw (over-after x y rs) (sym (over-tighter caps (step caps power x y) (along caps power own y r) (over_all caps power own y rs)))
 
-  over-joined : (x : ℕ) (f : ℕ → List (List ℕ)) (h : ℕ → Limit) (l : Limit) → ((y : ℕ) → h y ≡ over_all caps power own x (f y)) → (n : ℕ) → tightest caps h l n ≡ tighter caps l (over_all caps power own x (joined f n))
+  over-joined : (x : ℕ) (f : ℕ → List (List ℕ)) (h : ℕ → Option ℤ) (l : Option ℤ) → ((y : ℕ) → h y ≡ over_all caps power own x (f y)) → (n : ℕ) → tightest caps h l n ≡ tighter caps l (over_all caps power own x (joined f n))
   unfolding tightest joined over_all
   over-joined x f h l e zero = tight-none caps l
   over-joined x f h l e (suc n) =
@@ -37,7 +36,7 @@ module _ (caps : Bool) (power : ℕ → ℕ → ℕ) (own : ℕ → Limit) where
   search-routes R (suc left) seen x = over-joined x _ _ (own x) (λ y. go y (get_or (set seen x true) y false) (search-routes R left (set seen x true) y)) R
     where
       go : (y : ℕ) (t : Bool) → limit_from caps power own R left (set seen x true) y ≡ over_all caps power own y (routes_from R left (set seen x true) y)
-          → pick t Open (over caps (step caps power x y) (limit_from caps power own R left (set seen x true) y)) ≡ over_all caps power own x (pick t [] (after y (routes_from R left (set seen x true) y)))
+          → pick t None (over caps (step caps power x y) (limit_from caps power own R left (set seen x true) y)) ≡ over_all caps power own x (pick t [] (after y (routes_from R left (set seen x true) y)))
       go y true i = refl
       go y false i = ap (over caps (step caps power x y)) i ∙ sym (over-after x y (routes_from R left (set seen x true) y))
 
@@ -47,7 +46,7 @@ module _ (caps : Bool) (power : ℕ → ℕ → ℕ) (own : ℕ → Limit) where
   limit-routes R x = search-routes R (R - 1) unseen x
 
 -- nothing else is looked at
-pub limit-same : (caps : Bool) (power other : ℕ → ℕ → ℕ) (own mine : ℕ → Limit) (R : ℕ) → ((x y : ℕ) → x < R → y < R → power x y ≡ other x y) → ((x : ℕ) → x < R → own x ≡ mine x)
+pub limit-same : (caps : Bool) (power other : ℕ → ℕ → ℕ) (own mine : ℕ → Option ℤ) (R : ℕ) → ((x y : ℕ) → x < R → y < R → power x y ≡ other x y) → ((x : ℕ) → x < R → own x ≡ mine x)
     → (x : ℕ) → x < R → limit_of caps power own R x ≡ limit_of caps other mine R x
 limit-same caps power other own mine R h o x i =
     sym (limit-routes caps power own R x) ∙ search-same caps power other own mine R h o (R - 1) unseen x i ∙ limit-routes caps other mine R x

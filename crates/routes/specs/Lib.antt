@@ -1,4 +1,5 @@
 pub mod Limits
 pub mod Links
+pub mod Lent
 pub mod Routes
 pub mod Search

@@ -1,14 +1,12 @@
 -- Limits over every route that visits no region twice. Assumes nothing.
-use Rattle.std.specs.Prelude.{◌≡◌, Bool, true, false, List, [], ◌∷◌, ◌++◌, ℕ, zero, suc, ◌-◌, ◌<◌, get_or, set, replicate}
+use Rattle.std.specs.Prelude.{◌≡◌, Bool, true, false, List, [], ◌∷◌, ◌++◌, ℕ, zero, suc, ◌-◌, ◌<◌, get_or, set, replicate, Option, None, ℤ}
 use Rattle.laws.specs.Base.{pick}
-use Rattle.routes.specs.declared.Limit.{Limit}
-use Rattle.routes.specs.declared.Limit.TheVariants.{Open}
 use Rattle.routes.specs.Limits.{tighter, over}
 use Rattle.routes.specs.Links.{step}
 
 -- a route from x is the list of the regions after x; the limit of the region at its end comes back over its links, each of which
 -- rounds, in ten-thousandths of a cent, and "Limits travel on over any number of links, whether or not a price on the way changed"
-unfoldable pub along : Bool → (ℕ → ℕ → ℕ) → (ℕ → Limit) → ℕ → List ℕ → Limit
+unfoldable pub along : Bool → (ℕ → ℕ → ℕ) → (ℕ → Option ℤ) → ℕ → List ℕ → Option ℤ
 along caps power own x [] = own x
 along caps power own x (y ∷ route) = over caps (step caps power x y) (along caps power own y route)
 
@@ -29,8 +27,8 @@ routes_from R (suc left) seen x =
     [] ∷ joined (λ y. pick (get_or (set seen x true) y false) [] (after y (routes_from R left (set seen x true) y))) R
 
 -- the tightest of the limits along the routes
-unfoldable pub over_all : Bool → (ℕ → ℕ → ℕ) → (ℕ → Limit) → ℕ → List (List ℕ) → Limit
-over_all caps power own x [] = Open
+unfoldable pub over_all : Bool → (ℕ → ℕ → ℕ) → (ℕ → Option ℤ) → ℕ → List (List ℕ) → Option ℤ
+over_all caps power own x [] = None
 over_all caps power own x (r ∷ rs) = tighter caps (along caps power own x r) (over_all caps power own x rs)
 
 -- the eight regions, none seen
@@ -38,7 +36,7 @@ abbrev pub unseen : List Bool
 unseen = replicate 8 false
 
 -- the limit of region x of R: the tightest over every route from x that visits no region twice
-unfoldable pub limit_of : Bool → (ℕ → ℕ → ℕ) → (ℕ → Limit) → ℕ → ℕ → Limit
+unfoldable pub limit_of : Bool → (ℕ → ℕ → ℕ) → (ℕ → Option ℤ) → ℕ → ℕ → Option ℤ
 limit_of caps power own R x = over_all caps power own x (routes_from R (R - 1) unseen x)
 
 -- a route from x that visits no region twice: each region is below R and was neither seen nor passed. That `routes_from`

@@ -2,16 +2,12 @@
 use mathlib.Core.Path.{◌≡◌}
 use mathlib.Core.Bool.{false}
 use mathlib.Core.List.{◌++◌}
-use Prim.Native.Nat.{◌≤◌, ◌-◌}
+use Prim.Native.Nat.{◌≤◌}
 use lib.ListN.{length, get_or, drop}
 use Rattle.laws.specs.Lists.{tabulate}
 use Rattle.publishing.specs.Bounds.{in_cents}
-use Rattle.publishing.specs.Working.{bound_of}
 use Rattle.publishing.proofs.Limits.{limit_by}
 use Rattle.publishing.proofs.bounds.Given as goal
 
 abbrev pub invariant-loop-r : goal.invariant-loop-r
-invariant-loop-r l = (l.r ≤ l.terms.regions) × (length l.all ≡ 8) × (l.all ≡ tabulate l.r (λ x. bound_of l.caps (in_cents (limit_by l.caps l.terms l.flows l.factors (λ y. get_or l.sources y false) x))) ++ drop l.r l.initial.all)
-
-abbrev pub decreases-loop-r : goal.decreases-loop-r
-decreases-loop-r l = l.terms.regions - l.r
+invariant-loop-r l = (l.r ≤ l.terms.regions) × (length l.all ≡ 8) × (l.all ≡ tabulate l.r (λ x. in_cents (limit_by l.caps l.terms l.flows l.factors (λ y. get_or l.sources y false) x)) ++ drop l.r l.initial.all)

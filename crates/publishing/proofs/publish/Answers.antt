@@ -1,14 +1,9 @@
 -- `publishing::publish` meets its contract. The loop's invariant: the rows of the regions passed are stored, and their changes counted. Assumes nothing.
-use borrow.Author.Rules.{rules}
 use mathlib.Core.Path.{◌≡◌, refl, ◌∙◌}
 use mathlib.Core.Bool.{true, false}
 use Prim.Native.Nat.{◌<◌, ◌+◌, ◌*◌}
 use native.Mathlib.Omega.{arith}
-use lib.IntN.{pos}
-use lib.ListN.{get_or}
 use lib.Seq.{sets}
-use mir.Syntax.{w32}
-use mir.Val.{SFits}
 use Rattle.laws.specs.Lists.{run, count_below}
 use Rattle.publishing.specs.Entry.{entry_of}
 use Rattle.publishing.specs.Published.{published_at, changed_at}
@@ -28,17 +23,16 @@ overflow_add-count c =
     let e = entry_of a.kind a.prices.now a.marked.now a.flows.now a.factors.now a.schedule.now in
     (c.loop-r.count + c.publish_region-count.result ≡ count_below ((c.loop-r.r + 1) * a.terms.markets) (changed_at a.terms a.marks.now e))
     × (c.publish_region-count.new.table ≡ sets a.table.now 0 (run ((c.loop-r.r + 1) * a.terms.markets) 0 (published_at a.terms a.marks.now e))) = (let a = c.args in
+    let e = entry_of a.kind a.prices.now a.marked.now a.flows.now a.factors.now a.schedule.now in
     let t = a.terms in
     let ok = c.requires.terms_ok.0 in
     let l = c.loop-r in
     let h : c.loop-r.r < t.regions = omega arith in
-    let f : SFits w32 (get_or c.bounds-tops.result c.loop-r.r (pos 0)) = search rules in
-    let g : SFits w32 (get_or c.bounds-bottoms.result c.loop-r.r (pos 0)) = search rules in
-    let top = read_is true t ok a.flows.now a.factors.now a.marks.now _ c.loop-r.r h c.sources-caps.ensures c.bounds-tops.ensures f in
-    let bottom = read_is false t ok a.flows.now a.factors.now a.marks.now _ c.loop-r.r h c.sources-floors.ensures c.bounds-bottoms.ensures g in
+    let top = read_is true t ok a.flows.now a.factors.now a.marks.now _ c.loop-r.r h c.sources-caps.ensures c.bounds-tops.ensures in
+    let bottom = read_is false t ok a.flows.now a.factors.now a.marks.now _ c.loop-r.r h c.sources-floors.ensures c.bounds-bottoms.ensures in
     let n = c.publish_region-count.ensures in (
-      counts_step _ _ _ c.loop-r.invariant.3 (n.value ∙ count-is t ok a.marks.now _ c.requires.links_ok.0 c.loop-r.r h n.by_index top bottom),
-      n.table_after ∙ rows_step _ _ _ _ _ _ c.loop-r.invariant.2 (prices-are t ok a.marks.now _ c.requires.links_ok.0 c.loop-r.r h n.by_index top bottom),
+      counts_step _ _ _ c.loop-r.invariant.3 (n.value ∙ count-is t a.marks.now e c.loop-r.r top bottom),
+      n.table_after ∙ rows_step _ _ _ _ _ _ c.loop-r.invariant.2 (prices-are t a.marks.now e c.loop-r.r top bottom),
     )) in
     count_fits _ (turned).0 (rows-small c.args.terms c.requires.terms_ok.0 _ (omega arith))
 
@@ -49,17 +43,16 @@ loop-r-preserved c =
     let e = entry_of a.kind a.prices.now a.marked.now a.flows.now a.factors.now a.schedule.now in
     (c.loop-r.count + c.publish_region-count.result ≡ count_below ((c.loop-r.r + 1) * a.terms.markets) (changed_at a.terms a.marks.now e))
     × (c.publish_region-count.new.table ≡ sets a.table.now 0 (run ((c.loop-r.r + 1) * a.terms.markets) 0 (published_at a.terms a.marks.now e))) = (let a = c.args in
+    let e = entry_of a.kind a.prices.now a.marked.now a.flows.now a.factors.now a.schedule.now in
     let t = a.terms in
     let ok = c.requires.terms_ok.0 in
     let l = c.loop-r in
     let h : c.loop-r.r < t.regions = omega arith in
-    let f : SFits w32 (get_or c.bounds-tops.result c.loop-r.r (pos 0)) = search rules in
-    let g : SFits w32 (get_or c.bounds-bottoms.result c.loop-r.r (pos 0)) = search rules in
-    let top = read_is true t ok a.flows.now a.factors.now a.marks.now _ c.loop-r.r h c.sources-caps.ensures c.bounds-tops.ensures f in
-    let bottom = read_is false t ok a.flows.now a.factors.now a.marks.now _ c.loop-r.r h c.sources-floors.ensures c.bounds-bottoms.ensures g in
+    let top = read_is true t ok a.flows.now a.factors.now a.marks.now _ c.loop-r.r h c.sources-caps.ensures c.bounds-tops.ensures in
+    let bottom = read_is false t ok a.flows.now a.factors.now a.marks.now _ c.loop-r.r h c.sources-floors.ensures c.bounds-bottoms.ensures in
     let n = c.publish_region-count.ensures in (
-      counts_step _ _ _ c.loop-r.invariant.3 (n.value ∙ count-is t ok a.marks.now _ c.requires.links_ok.0 c.loop-r.r h n.by_index top bottom),
-      n.table_after ∙ rows_step _ _ _ _ _ _ c.loop-r.invariant.2 (prices-are t ok a.marks.now _ c.requires.links_ok.0 c.loop-r.r h n.by_index top bottom),
+      counts_step _ _ _ c.loop-r.invariant.3 (n.value ∙ count-is t a.marks.now e c.loop-r.r top bottom),
+      n.table_after ∙ rows_step _ _ _ _ _ _ c.loop-r.invariant.2 (prices-are t a.marks.now e c.loop-r.r top bottom),
     )) in
     let l = c.loop-r in
     let w = turned in

@@ -1,6 +1,6 @@
 -- `publishing::publish` meets its contract. The loop's invariant: the rows of the regions passed are stored, and their changes counted. Assumes nothing.
 use mathlib.Core.Path.{◌≡◌}
-use Prim.Native.Nat.{◌≤◌, ◌*◌, ◌-◌}
+use Prim.Native.Nat.{◌≤◌, ◌*◌}
 use lib.ListN.{length}
 use lib.Seq.{sets}
 use Rattle.laws.specs.Lists.{run, count_below}
@@ -10,10 +10,7 @@ use Rattle.publishing.proofs.publish.Given as goal
 
 abbrev pub invariant-loop-r : goal.invariant-loop-r
 invariant-loop-r l =
-    (l.r ≤ l.terms.regions)
+    (l.r ≤ l.r-end)
     × (length l.table ≡ length l.initial.table)
-    × (l.table ≡ sets l.initial.table 0 (run (l.r * l.terms.markets) 0 (published_at l.terms l.marks (entry_of l.kind l.prices l.marked l.flows l.factors l.schedule))))
-    × (l.count ≡ count_below (l.r * l.terms.markets) (changed_at l.terms l.marks (entry_of l.kind l.prices l.marked l.flows l.factors l.schedule)))
-
-abbrev pub decreases-loop-r : goal.decreases-loop-r
-decreases-loop-r l = l.terms.regions - l.r
+    × (l.table ≡ sets l.initial.table 0 (run (l.r * l.interval.terms.markets) 0 (published_at l.interval.terms l.interval.marks (entry_of l.kind l.prices l.marked l.flows l.factors l.schedule))))
+    × (l.count ≡ count_below (l.r * l.interval.terms.markets) (changed_at l.interval.terms l.interval.marks (entry_of l.kind l.prices l.marked l.flows l.factors l.schedule)))

@@ -13,11 +13,11 @@ pub returns-in-0 : goal.returns-in-0
 unfolding published_by
 returns-in-0 c =
     let f : SFits w32 c.capped-held.result = search rules in
-    let g : SFits w32 c.at_most.result = search rules in
-    let q : SFits w32 c.at_least.result = search rules in
+    let g : SFits w32 c.bind.result = search rules in
+    let q : SFits w32 c.bind-in-0.result = search rules in
     let a = simp (to_z-of_z c.ranges.price, to_z-of_z c.ranges.floor, to_z-of_z c.ranges.cap) at c.capped-held.ensures in
-    let b = rw a at (simp (to_z-of_z f, to_z-of_z c.ranges.top) at c.at_most.ensures) in
-    let d = rw b at (simp (to_z-of_z g, to_z-of_z c.ranges.bottom) at c.at_least.ensures) in
+    let b = rw a at (simp (to_z-of_z f) at c.bind.ensures) in
+    let d = rw b at (simp (to_z-of_z g) at c.bind-in-0.ensures) in
     rw (to_z-of_z q, eq-eqb _ _ c.in-0.is) d
 
 pub returns-in-1-to-10 : goal.returns-in-1-to-10

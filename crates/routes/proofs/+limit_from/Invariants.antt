@@ -18,6 +18,3 @@ decreases-limit_from l = l.left
 abbrev pub invariant-loop-y : goal.invariant-loop-y
 invariant-loop-y l =
     (l.y ≤ l.regions) × (l.best ≡ tightest l.caps (reached l.caps (power l.powers) (own l.hits l.bound) l.regions (l.left - 1) l.marked l.x) l.initial.best l.y)
-
-abbrev pub decreases-loop-y : goal.decreases-loop-y
-decreases-loop-y l = l.regions - l.y

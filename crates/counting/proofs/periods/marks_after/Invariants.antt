@@ -1,7 +1,7 @@
 -- `counting::periods::marks_after` meets its contract. Assumes nothing.
 use mathlib.Core.Path.{◌≡◌}
 use mathlib.Core.List.{◌++◌}
-use Prim.Native.Nat.{◌≤◌, ◌-◌}
+use Prim.Native.Nat.{◌≤◌}
 use lib.IntN.{pos}
 use lib.ListN.{length, get_or, drop}
 use Rattle.laws.specs.Lists.{tabulate}
@@ -12,6 +12,3 @@ abbrev pub invariant-loop-k : goal.invariant-loop-k
 invariant-loop-k l =
     (l.k ≤ l.n) × (length l.initial.after ≡ 88) × (length l.after ≡ 88)
     × (l.after ≡ tabulate l.k (λ q. mark_after l.threshold l.last (get_or l.sums q (pos 0)) (get_or l.initial.after q 0)) ++ drop l.k l.initial.after)
-
-abbrev pub decreases-loop-k : goal.decreases-loop-k
-decreases-loop-k l = l.n - l.k

@@ -27,8 +27,8 @@ bounds-book-r-then-marked-r-eq0 c =
     let small : c.args.book.regions ≤ 8 = (valid-is c.args.book c.requires.valid).regions in
     omega (arith, small)
 
-pub take_region-requires : goal.take_region-requires
-take_region-requires c =
+pub take-requires : goal.take-requires
+take-requires c =
     let a = c.args in
     let l = c.loop-r in
     let v = valid-is a.book c.requires.valid in
@@ -43,7 +43,7 @@ loop-r-preserved c =
     let j = c.if-marked-r-eq0 in
     elim j.branch [
       | then-marked-r-eq0 w ↦
-          let p = turned a.book v a.ring.now o l.r c.loop-r-test.true c.requires.ring-size _ _ _ _ l.invariant.2 l.invariant.3 w.if-marked-r-eq0.true (w.ring-is ∙ w.take_region.ensures.ring_after) (w.sums-is ∙ w.take_region.ensures.sums_after) in
+          let p = turned a.book v a.ring.now o l.r c.loop-r-test.true c.requires.ring-size _ _ _ _ l.invariant.2 l.invariant.3 w.if-marked-r-eq0.true (w.ring-is ∙ w.take.ensures.ring_after) (w.sums-is ∙ w.take.ensures.sums_after) in
           (omega arith, j.auto.ring ∙ l.invariant.1, p.0, p.1)
       | else-marked-r-eq0 w ↦
           let p = passed a.book a.ring.now o l.r _ _ _ _ l.invariant.2 l.invariant.3 w.if-marked-r-eq0.false w.ring-is w.sums-is in

@@ -1,6 +1,6 @@
 -- `counting::windows::take` meets its contract. The loop's invariant: sums and ring are as after the regions passed. Assumes nothing.
 use mathlib.Core.Path.{◌≡◌}
-use Prim.Native.Nat.{◌≤◌, ◌-◌}
+use Prim.Native.Nat.{◌≤◌}
 use lib.ListN.{length}
 use Rattle.counting.specs.Working.{offered}
 use Rattle.counting.proofs.Takings.{sums_to, ring_to}
@@ -12,6 +12,3 @@ invariant-loop-r l =
     × (length l.ring ≡ length l.initial.ring)
     × (l.ring ≡ ring_to l.book l.initial.ring (offered l.prices l.marked) l.r)
     × (l.sums ≡ sums_to l.book l.initial.ring (offered l.prices l.marked) l.r)
-
-abbrev pub decreases-loop-r : goal.decreases-loop-r
-decreases-loop-r l = l.regions - l.r
