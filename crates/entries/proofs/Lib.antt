@@ -4,3 +4,4 @@ pub mod Accepted
 pub mod Unmoved
 mod Verdicts
 pub mod Unused
+pub mod Founds

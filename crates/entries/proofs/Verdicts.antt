@@ -10,15 +10,13 @@ use lib.ListN.{length}
 use Rattle.pricing.specs.Verdict.{accepted, refused, refused_at}
 use Rattle.book.specs.declared.record.Book.{Book}
 use Rattle.book.specs.declared.record.Refusal.{Refusal}
-use Rattle.book.specs.declared.record.Answer.{Answer}
-use Rattle.book.specs.declared.record.Answer.TheVariants.{Accepted, Refused}
+use Rattle.std.specs.Prelude.{Result, Ok, Err}
 use Rattle.book.specs.Record.{markets_of, link_count, verdict, is_accepted}
 use Rattle.book.specs.Validity.{valid}
 use Rattle.book.proofs.Ways.{refusal_is}
 use Rattle.publishing.specs.declared.Terms.{Terms}
 use Rattle.publishing.specs.Entry.{Entry, TermsOk, OfferOk, LinksOk}
 use Rattle.publishing.specs.Published.{table_of, count_of}
-use Rattle.entries.specs.declared.Publication.TheVariants.{Count, Refused as Not-published}
 use Rattle.entries.specs.Checking.{lengths_ok, first_mark, first_price, first_factor, entry_verdict}
 use Rattle.counting.specs.Windows.{ring_after}
 use Rattle.entries.specs.Entering.{shape_of, terms_of, book_after, enter_verdict, outcome, entered}
@@ -76,22 +74,22 @@ module _ (b : Book) (ring n : ℕ) (e : Entry) (table : ℕ) where
           enter-more d = rw (v, l, lt-leb 10000000 b.entries t, eq-eqb n b.entries k, d)
 
 -- ---- the call, by the answer of its tests
-module _ (b : Book) (ring : List ℤ) (n : ℕ) (e : Entry) (table : List ℤ) (a : Answer) (h : verdict a ≡ enter_verdict b (length ring) n e (length table)) where
-  pub entered-refused : (r : Refusal) → a ≡ Refused r → outcome (record { book = b; publication = Not-published r }) ring table ≡ entered b ring n e table
+module _ (b : Book) (ring : List ℤ) (n : ℕ) (e : Entry) (table : List ℤ) (a : Result Unit Refusal) (h : verdict a ≡ enter_verdict b (length ring) n e (length table)) where
+  pub entered-refused : (r : Refusal) → a ≡ Err r → outcome (record { book = b; answer = Err r }) ring table ≡ entered b ring n e table
   unfolding entered
   entered-refused r q =
-      let p : verdict (Refused r) ≡ enter_verdict b (length ring) n e (length table) = ap verdict (sym q) ∙ h in
+      let p : verdict {T = Unit} (Err r) ≡ enter_verdict b (length ring) n e (length table) = ap verdict (sym q) ∙ h in
       let z : is_accepted (enter_verdict b (length ring) n e (length table)) ≡ false = rw (← p) (refusal_is r) in
       rw (z, p)
 
-  is-accepted : a ≡ Accepted → is_accepted (enter_verdict b (length ring) n e (length table)) ≡ true
+  is-accepted : a ≡ Ok tt → is_accepted (enter_verdict b (length ring) n e (length table)) ≡ true
   is-accepted q = rw (← h, q) refl
 
   -- the next number is how many entries were taken
-  pub entry-accepted : a ≡ Accepted → Accepts b (length ring) b.entries e (length table)
+  pub entry-accepted : a ≡ Ok tt → Accepts b (length ring) b.entries e (length table)
   entry-accepted q = let f = accepted-entry b (length ring) n e (length table) (is-accepted q) in rw f.number at f
 
-  pub entered-accepted : a ≡ Accepted → acceptance b ring e ≡ entered b ring n e table
+  pub entered-accepted : a ≡ Ok tt → acceptance b ring e ≡ entered b ring n e table
   unfolding entered
   entered-accepted q = rw (is-accepted q)
 
@@ -105,5 +103,5 @@ module _ (b : Book) (ring : List ℤ) (e : Entry) (t : Terms) (q : t ≡ terms_o
       )
 
   pub acceptance-is : (n : ℕ) (after : Book) (ring' table' : List ℤ) → n ≡ count_of t b.marks e → table' ≡ table_of t b.marks e → after ≡ book_after b ring e → ring' ≡ ring_after b ring e.offer
-      → outcome (record { book = after; publication = Count n }) ring' table' ≡ acceptance b ring e
+      → outcome (record { book = after; answer = Ok n }) ring' table' ≡ acceptance b ring e
   acceptance-is n after ring' table' x y z w = rw (x, y, z, w, q)

@@ -1,16 +1,15 @@
 -- The whole call of an entry. Assumes nothing.
-use Rattle.std.specs.Prelude.{not, List, ℕ, ◌+◌, ℤ, length}
+use Rattle.std.specs.Prelude.{Result, Ok, Err, not, List, ℕ, ◌+◌, ℤ, length}
 use Rattle.laws.specs.Base.{pick}
 use Rattle.pricing.specs.Verdict.{Verdict, accepted, refused}
 use Rattle.book.specs.declared.record.Book.{Book}
-use Rattle.book.specs.Record.{markets_of, verdict_of, is_accepted}
+use Rattle.book.specs.Record.{markets_of, verdict, is_accepted}
 use Rattle.book.specs.Validity.{valid}
 use Rattle.publishing.specs.declared.Terms.{Terms}
 use Rattle.publishing.specs.Entry.{Entry}
 use Rattle.publishing.specs.Published.{table_of, count_of}
-use Rattle.entries.specs.declared.Publication.{Publication}
-use Rattle.entries.specs.declared.Publication.TheVariants.{Count, Refused}
-use Rattle.entries.specs.declared.Entered.{Entered}
+use Rattle.book.specs.declared.record.Reply.{Reply}
+use Rattle.book.specs.declared.record.Refusal.{Refusal}
 use Rattle.entries.specs.Checking.{Shape, entry_verdict}
 use Rattle.counting.specs.Windows.{sums_after, counts_after, nexts_after, ring_after}
 use Rattle.counting.specs.Periods.{last_of_day, position_after, marks_after}
@@ -67,18 +66,14 @@ pub record Outcome : Type 0 where
   pub ring : List ℤ
   pub table : List ℤ
 
--- the paper's numbers for each case: the count, or zero beside a refusal
-abbrev pub verdict : Publication → Verdict
-verdict (Count n) = accepted
-verdict (Refused r) = verdict_of r
+-- the paper's number for each case: the count, or zero beside a refusal
+abbrev pub count : Result ℕ Refusal → ℕ
+count (Ok n) = n
+count (Err r) = 0
 
-abbrev pub count : Publication → ℕ
-count (Count n) = n
-count (Refused r) = 0
-
-abbrev pub outcome : Entered → List ℤ → List ℤ → Outcome
+abbrev pub outcome : Reply ℕ → List ℤ → List ℤ → Outcome
 outcome r ring table =
-    record { verdict = verdict r.publication; count = count r.publication; book = r.book; ring = ring; table = table }
+    record { verdict = verdict r.answer; count = count r.answer; book = r.book; ring = ring; table = table }
 
 abbrev pub enter_verdict : Book → ℕ → ℕ → Entry → ℕ → Verdict
 enter_verdict b ring number e table = pick (not (valid b)) (refused 10) (entry_verdict (shape_of b) b.entries ring number e table)

@@ -1,6 +1,6 @@
 -- The way by which the code takes an entry: its steps over numbers and lent slices, and what one part asks of another. The
 -- promise of `enter` does not speak of these; its proof shows that they come to the same. Assumes nothing.
-use Rattle.std.specs.Prelude.{◌≡◌, true, List, ℕ, ◌+◌, ◌*◌, ◌<◌, ◌≤◌, ltb, ℤ, pos, length, get_or}
+use Rattle.std.specs.Prelude.{◌≡◌, Option, Some, None, cond, true, List, ℕ, ◌+◌, ◌*◌, ◌<◌, ◌≤◌, ltb, ℤ, pos, length, get_or}
 use Rattle.laws.specs.Base.{pick}
 use Rattle.pricing.specs.Verdict.{Verdict, accepted, refused_at}
 use Rattle.pricing.specs.Holding.{is_energy, in_range}
@@ -13,6 +13,10 @@ use Rattle.publishing.specs.Published.{table_of, count_of}
 use Rattle.entries.specs.Checking.{first_mark, first_price, first_factor}
 use Rattle.counting.specs.Windows.{ring_after}
 use Rattle.entries.specs.Entering.{Outcome, terms_of, book_after}
+
+-- the place that a search answered, if it lies before the end
+abbrev pub found : ℕ → ℕ → Option ℕ
+found end place = cond (ltb place end) (Some place) None
 
 -- 15 to 17, the refusals that have a place
 unfoldable pub slices_verdict : ℕ → ℕ → ℕ → List ℕ → List ℤ → List ℕ → List ℕ → Verdict

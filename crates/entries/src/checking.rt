@@ -1,46 +1,40 @@
 // The refusals of an entry, 10 to 17.
 ghost use Rattle.std.specs.Prelude.{◌≡◌, Bool, ◌+◌, ◌*◌, ◌≤◌, length};
 ghost use Rattle.book.specs.Record.{verdict};
-ghost use Rattle.publishing.specs.Entry.{entry_of};
 ghost use Rattle.entries.specs.Checking.{lengths_ok, first_mark, first_price, has_factor, first_factor};
 ghost use Rattle.entries.specs.Entering.{shape_of, enter_verdict};
-ghost use Rattle.entries.specs.Working.{slices_verdict};
+ghost use Rattle.entries.specs.Working.{found, slices_verdict};
 
-use book::record::{Answer, Book, Refusal, link_count};
+use crate::Entry;
+use book::record::{Book, Refusal, link_count};
 use book::validity::valid;
 
-// The first mark that is not 0 or 1, or R.
-fn first_mark(marked: &[u8]) -> usize
-    ensures { result ≡ first_mark (length marked.now) marked.now }
+// The first mark that is not 0 or 1.
+fn first_mark(marked: &[u8]) -> Option<usize>
+    ensures { result ≡ found (length marked.now) (first_mark (length marked.now) marked.now) }
 {
-    let mut r: usize = 0;
-    while r < marked.len() {
+    for r in 0..marked.len() {
         if !(marked[r] <= 1) {
-            return r;
+            return Some(r);
         }
-        r += 1;
     }
-    r
+    None
 }
 
-// The first price of an unmarked region that is out of its market's range, or R × M.
-fn first_price(regions: usize, markets: usize, prices: &[i32], marked: &[u8]) -> usize
+// The first price of an unmarked region that is out of its market's range.
+fn first_price(regions: usize, markets: usize, prices: &[i32], marked: &[u8]) -> Option<usize>
     requires { (length prices.now ≡ regions * markets) × (length marked.now ≡ regions) }
-    ensures { result ≡ first_price regions markets prices.now marked.now }
+    ensures { result ≡ found (regions * markets) (first_price regions markets prices.now marked.now) }
 {
-    let mut found = regions * markets;
-    let mut region: usize = 0;
-    'search: while region < regions {
-        let mut market: usize = 0;
-        while market < markets {
+    let mut found = None;
+    'search: for region in 0..regions {
+        for market in 0..markets {
             let k = region * markets + market;
             if (marked[region] == 0) & !pricing::holding::in_range(market, prices[k]) {
-                found = k;
+                found = Some(k);
                 break 'search;
             }
-            market += 1;
         }
-        region += 1;
     }
     found
 }
@@ -56,20 +50,18 @@ fn has_factor(regions: usize, parents: [u8; 8], r: usize) -> bool
     parents[r] != 255
 }
 
-// The first factor out of range of those that are looked at, or how many there are.
-fn first_factor(links: usize, regions: usize, parents: [u8; 8], factors: &[u32]) -> usize
+// The first factor out of range of those that are looked at.
+fn first_factor(links: usize, regions: usize, parents: [u8; 8], factors: &[u32]) -> Option<usize>
     requires { (regions ≤ 8) × (links ≤ regions + 1) × (length factors.now ≡ links) }
-    ensures { result ≡ first_factor links regions parents factors.now }
+    ensures { result ≡ found links (first_factor links regions parents factors.now) }
 {
-    let mut r: usize = 0;
-    while r < links {
+    for r in 0..links {
         let looked = has_factor(regions, parents, r);
         if looked & !((10000 <= factors[r]) & (factors[r] <= 20000)) {
-            return r;
+            return Some(r);
         }
-        r += 1;
     }
-    r
+    None
 }
 
 // 15 to 17: the first bad mark, price or factor.
@@ -78,51 +70,38 @@ fn slices_verdict(
     regions: usize,
     markets: usize,
     parents: [u8; 8],
-    prices: &[i32],
-    marked: &[u8],
-    factors: &[u32],
-) -> Answer
-    requires regions_bound { (regions ≤ 8) × (links ≤ regions + 1) × (length prices.now ≡ regions * markets) }
-    requires marked_len { (length marked.now ≡ regions) × (length factors.now ≡ links) }
-    ensures { verdict result ≡ slices_verdict links regions markets parents prices.now marked.now factors.now }
+    entry: &Entry,
+) -> Result<(), Refusal>
+    requires regions_bound { (regions ≤ 8) × (links ≤ regions + 1) × (length entry.now.offer.prices ≡ regions * markets) }
+    requires marked_len { (length entry.now.offer.marked ≡ regions) × (length entry.now.factors ≡ links) }
+    ensures { verdict result
+        ≡ slices_verdict links regions markets parents entry.now.offer.prices entry.now.offer.marked entry.now.factors }
 {
-    let mark = first_mark(marked);
-    if mark < regions {
-        return Answer::Refused(Refusal::Mark(mark));
+    if let Some(mark) = first_mark(entry.marked) {
+        return Err(Refusal::Mark(mark));
     }
-    let price = first_price(regions, markets, prices, marked);
-    if price < regions * markets {
-        return Answer::Refused(Refusal::Price(price));
+    if let Some(price) = first_price(regions, markets, entry.prices, entry.marked) {
+        return Err(Refusal::Price(price));
     }
-    let factor = first_factor(links, regions, parents, factors);
-    if factor < links {
-        return Answer::Refused(Refusal::Factor(factor));
+    if let Some(factor) = first_factor(links, regions, parents, entry.factors) {
+        return Err(Refusal::Factor(factor));
     }
-    Answer::Accepted
+    Ok(())
 }
 
 // Whether every lent slice has its length. The ring and the table are told by theirs.
-fn lengths_ok(
-    book: Book,
-    ring: usize,
-    prices: &[i32],
-    marked: &[u8],
-    flows: &[i32],
-    factors: &[u32],
-    schedule: &[i32],
-    table: usize,
-) -> bool
-    ensures { result ≡ lengths_ok (shape_of book) ring (entry_of 0 prices.now marked.now flows.now factors.now schedule.now) table }
+fn lengths_ok(book: Book, ring: usize, entry: &Entry, table: usize) -> bool
+    ensures { result ≡ lengths_ok (shape_of book) ring entry.now table }
 {
     let regions = book.regions as usize;
     let size = regions * (book.services as usize + 1);
     let links = link_count(book);
     (ring == size * book.window as usize)
-        & (prices.len() == size)
-        & (marked.len() == regions)
-        & (flows.len() == links)
-        & (factors.len() == links)
-        & (schedule.len() == size * 2 * book.halves as usize)
+        & (entry.prices.len() == size)
+        & (entry.marked.len() == regions)
+        & (entry.flows.len() == links)
+        & (entry.factors.len() == links)
+        & (entry.schedule.len() == size * 2 * book.halves as usize)
         & (table == size)
 }
 
@@ -131,34 +110,29 @@ pub(crate) fn enter_verdict(
     book: Book,
     ring: usize,
     number: u32,
-    kind: u8,
-    prices: &[i32],
-    marked: &[u8],
-    flows: &[i32],
-    factors: &[u32],
-    schedule: &[i32],
+    entry: &Entry,
     table: usize,
-) -> Answer
-    ensures { verdict result ≡ enter_verdict book ring number (entry_of kind prices.now marked.now flows.now factors.now schedule.now) table }
+) -> Result<(), Refusal>
+    ensures { verdict result ≡ enter_verdict book ring number entry.now table }
 {
     if !valid(book) {
-        return Answer::Refused(Refusal::Invalid);
+        return Err(Refusal::Invalid);
     }
-    if !lengths_ok(book, ring, prices, marked, flows, factors, schedule, table) {
-        return Answer::Refused(Refusal::Length);
+    if !lengths_ok(book, ring, entry, table) {
+        return Err(Refusal::Length);
     }
     if 10000000 <= book.entries {
-        return Answer::Refused(Refusal::Full);
+        return Err(Refusal::Full);
     }
     if number != book.entries {
-        return Answer::Refused(Refusal::Number);
+        return Err(Refusal::Number);
     }
-    if !(kind <= 1) {
-        return Answer::Refused(Refusal::Kind);
+    if !(entry.kind <= 1) {
+        return Err(Refusal::Kind);
     }
     let regions = book.regions as usize;
     let markets = book.services as usize + 1;
     let parents = book.parents;
-    let links = factors.len();
-    slices_verdict(links, regions, markets, parents, prices, marked, factors)
+    let links = entry.factors.len();
+    slices_verdict(links, regions, markets, parents, entry)
 }

@@ -4,29 +4,36 @@
 mod checking;
 
 ghost use Rattle.std.specs.Prelude.{◌≡◌, ◌<◌, length};
-ghost use Rattle.publishing.specs.Entry.{entry_of};
 ghost use Rattle.counting.specs.Windows.{ring_after};
 ghost use Rattle.entries.specs.Entering.{terms_of, book_after, outcome, entered};
 ghost use Rattle.counting.specs.Working.{offered, entering, Takes};
 ghost use Rattle.entries.specs.Working.{Accepts, acceptance};
 
 use crate::checking::enter_verdict;
-use book::record::{Answer, Book, Refusal};
+use book::record::{Book, Reply};
 use counting::periods::{last_of_day, marks_after, position_after};
 use counting::windows::{counts_after, nexts_after, take};
 use publishing::{Terms, publish};
+use std::marker::Model;
 
-// The count of published prices that differ from the effective ones, or the first refusal.
-#[derive(Clone, Copy)]
-pub enum Publication {
-    Count(u32),
-    Refused(Refusal),
+// What an entry lends: its day kind, prices, marks, flows, factors and schedule, of any lengths: the call tests them. A contract sees
+// it as publishing's Entry.
+#[derive(Drop)]
+pub struct Entry<'a> {
+    pub kind: u8,
+    pub prices: &'a [i32],
+    pub marked: &'a [u8],
+    pub flows: &'a [i32],
+    pub factors: &'a [u32],
+    pub schedule: &'a [i32],
 }
 
-#[derive(Clone, Copy)]
-pub struct Entered {
-    pub book: Book,
-    pub publication: Publication,
+impl<'a> Model for Entry<'a> {
+    ghost use Rattle.publishing.specs.Entry.{Entry as Said, entry_of};
+
+    ghost Value = { Said };
+
+    ghost view = { λ a. entry_of a.kind a.prices.now a.marked.now a.flows.now a.factors.now a.schedule.now };
 }
 
 // What the book brings to publishing; its parents are eight, as their type says.
@@ -72,38 +79,28 @@ fn book_after(book: Book, ring: &mut [i32], prices: &[i32], marked: &[u8]) -> Bo
     after
 }
 
-// Steps 1 to 6 of an entry that is accepted.
-fn accept(
-    book: Book,
-    ring: &mut [i32],
-    kind: u8,
-    prices: &[i32],
-    marked: &[u8],
-    flows: &[i32],
-    factors: &[u32],
-    schedule: &[i32],
-    table: &mut [i32],
-) -> Entered
-    requires { Accepts book (length ring.old) book.entries (entry_of kind prices.now marked.now flows.now factors.now schedule.now) (length table.old) }
-    ensures { outcome result ring.new table.new ≡ acceptance book ring.old (entry_of kind prices.now marked.now flows.now factors.now schedule.now) }
+// Steps 1 to 6 of an entry that is accepted; its answer is the count of published prices that differ from the effective ones.
+fn accept(book: Book, ring: &mut [i32], entry: &Entry, table: &mut [i32]) -> Reply<u32>
+    requires { Accepts book (length ring.old) book.entries entry.now (length table.old) }
+    ensures { outcome result ring.new table.new ≡ acceptance book ring.old entry.now }
 {
     let terms = terms_of(book);
     let marks = book.marks;
     let count = publish(
         terms,
         &marks,
-        kind as usize,
-        prices,
-        marked,
-        flows,
-        factors,
-        schedule,
+        entry.kind as usize,
+        entry.prices,
+        entry.marked,
+        entry.flows,
+        entry.factors,
+        entry.schedule,
         table,
     );
-    let after = book_after(book, ring, prices, marked);
-    Entered {
+    let after = book_after(book, ring, entry.prices, entry.marked);
+    Reply {
         book: after,
-        publication: Publication::Count(count),
+        answer: Ok(count),
     }
 }
 
@@ -112,35 +109,17 @@ pub fn enter(
     book: Book,
     ring: &mut [i32],
     number: u32,
-    kind: u8,
-    prices: &[i32],
-    marked: &[u8],
-    flows: &[i32],
-    factors: &[u32],
-    schedule: &[i32],
+    entry: &Entry,
     table: &mut [i32],
-) -> Entered
-    ensures { outcome result ring.new table.new ≡ entered book ring.old number (entry_of kind prices.now marked.now flows.now factors.now schedule.now) table.old }
+) -> Reply<u32>
+    ensures { outcome result ring.new table.new ≡ entered book ring.old number entry.now table.old }
 {
-    let answer = enter_verdict(
-        book,
-        ring.len(),
-        number,
-        kind,
-        prices,
-        marked,
-        flows,
-        factors,
-        schedule,
-        table.len(),
-    );
-    if let Answer::Refused(refusal) = answer {
-        return Entered {
+    let answer = enter_verdict(book, ring.len(), number, entry, table.len());
+    if let Err(refusal) = answer {
+        return Reply {
             book,
-            publication: Publication::Refused(refusal),
+            answer: Err(refusal),
         };
     }
-    accept(
-        book, ring, kind, prices, marked, flows, factors, schedule, table,
-    )
+    accept(book, ring, entry, table)
 }

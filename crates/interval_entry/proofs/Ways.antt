@@ -9,18 +9,16 @@ use lib.IntN.{ℤ, pos}
 use lib.ListN.{length, get_or, take, replicate, length-replicate}
 use Rattle.book.specs.declared.record.Book.{Book}
 use Rattle.book.specs.declared.record.Refusal.{Refusal}
-use Rattle.book.specs.Record.{markets_of, table_size, link_count, is_accepted}
+use Rattle.book.specs.Record.{markets_of, table_size, link_count, verdict, is_accepted}
 use Rattle.book.proofs.Ways.{refusal_is}
 use Rattle.publishing.specs.Entry.{Entry, entry_of}
-use Rattle.entries.specs.declared.Entered.{Entered}
-use Rattle.entries.specs.declared.Publication.TheVariants.{Count, Refused as Not-published}
+use Rattle.book.specs.declared.record.Reply.{Reply}
+use Rattle.std.specs.Prelude.{Ok, Err}
 use Rattle.entries.specs.Entering as Entering
 use Rattle.entries.proofs.Unmoved.{unmoved}
 use Rattle.interval_records.specs.Layout.{Interval, interval_of}
-use Rattle.intervals.specs.declared.reading.Taken.{Taken}
-use Rattle.intervals.specs.declared.reading.Found.TheVariants.{At, Refused as Not-found}
+use Rattle.intervals.specs.declared.reading.Found.{Found}
 use Rattle.intervals.specs.Reading as Reading
-use Rattle.interval_entry.specs.declared.Step.TheVariants.{Gone, Stopped}
 use Rattle.interval_entry.specs.Taking.{Outcome, entered_from, outcome_of, taken_into, taken, outcome}
 
 module _ (lent : Interval) (table : List ℤ) (b : Book) (ring : List ℤ) (records : List ℕ) (at : ℕ) (schedule : List ℤ) (region : ℕ) where
@@ -28,7 +26,7 @@ module _ (lent : Interval) (table : List ℤ) (b : Book) (ring : List ℤ) (reco
   all = taken_into lent table b ring records at schedule region
 
   -- the reader's outcome, with what its slices hold then
-  module _ (t : Taken) (prices : List ℤ) (marked : List ℕ) (flows : List ℤ) (factors : List ℕ)
+  module _ (t : Reply Found) (prices : List ℤ) (marked : List ℕ) (flows : List ℤ) (factors : List ℕ)
       (h : Reading.outcome t prices marked flows factors ≡ Reading.read_interval b records at lent) where
     abbrev after : Reading.Outcome → Outcome
     after r = outcome_of b ring region r (entered_from b ring schedule table r.interval)
@@ -38,21 +36,21 @@ module _ (lent : Interval) (table : List ℤ) (b : Book) (ring : List ℤ) (reco
     whole = ap after h
 
     -- refused by the reader
-    pub taken-unread : (r : Refusal) → t.found ≡ Not-found r → outcome (record { book = b; step = Stopped r }) ring ≡ all
+    pub taken-unread : (r : Refusal) → t.answer ≡ Err r → outcome (record { book = b; answer = Err r }) ring ≡ all
     taken-unread r f = go (refusal_is r) ∙ whole
       where
-        go : is_accepted (Reading.verdict (Not-found r)) ≡ false
-            → outcome (record { book = b; step = Stopped r }) ring ≡ after (Reading.outcome t prices marked flows factors)
+        go : is_accepted (verdict {T = Found} (Err r)) ≡ false
+            → outcome (record { book = b; answer = Err r }) ring ≡ after (Reading.outcome t prices marked flows factors)
         go z = rw (f, z) refl
 
     -- read: the entry's outcome, with what ring and table hold then
-    module _ (next number kind : ℕ) (f : t.found ≡ At next number kind) (e : Entered) (ring' table' : List ℤ)
-        (g : Entering.outcome e ring' table' ≡ Entering.entered b ring number (entry_of kind prices marked flows factors schedule) table) where
+    module _ (found : Found) (f : t.answer ≡ Ok found) (e : Reply ℕ) (ring' table' : List ℤ)
+        (g : Entering.outcome e ring' table' ≡ Entering.entered b ring found.number (entry_of found.kind prices marked flows factors schedule) table) where
       abbrev entry : Entry
-      entry = entry_of kind prices marked flows factors schedule
+      entry = entry_of found.kind prices marked flows factors schedule
 
       abbrev read : Reading.Outcome
-      read = record { verdict = Reading.verdict (At next number kind); next = next; book = t.book; interval = interval_of number kind prices marked flows factors }
+      read = record { verdict = verdict (Ok found); next = found.next; book = t.book; interval = interval_of found.number found.kind prices marked flows factors }
 
       is_read : Reading.outcome t prices marked flows factors ≡ read
       is_read = rw f refl
@@ -61,21 +59,21 @@ module _ (lent : Interval) (table : List ℤ) (b : Book) (ring : List ℤ) (reco
       entered-whole = ap (outcome_of b ring region read) g ∙ ap after (sym is_read) ∙ whole
 
       -- refused by the entry
-      pub taken-unentered : (r : Refusal) → e.publication ≡ Not-published r → outcome (record { book = e.book; step = Stopped r }) ring' ≡ all
+      pub taken-unentered : (r : Refusal) → e.answer ≡ Err r → outcome (record { book = e.book; answer = Err r }) ring' ≡ all
       taken-unentered r p =
-          let z : is_accepted (Entering.verdict (Not-published r)) ≡ false = refusal_is r in
+          let z : is_accepted (verdict {T = ℕ} (Err r)) ≡ false = refusal_is r in
           let v : is_accepted (Entering.outcome e ring' table').verdict ≡ false = rw p z in
-          let u = unmoved b ring number entry table (ap (λ (o : Entering.Outcome). is_accepted o.verdict) (sym g) ∙ v) in
+          let u = unmoved b ring found.number entry table (ap (λ (o : Entering.Outcome). is_accepted o.verdict) (sym g) ∙ v) in
           let k : e.book ≡ b = ap (λ (o : Entering.Outcome). o.book) g ∙ u.0 in
           let l : ring' ≡ ring = ap (λ (o : Entering.Outcome). o.ring) g ∙ u.1 in
-          let s : outcome (record { book = b; step = Stopped r }) ring ≡ outcome_of b ring region read (Entering.outcome e ring' table') = rw (p, z) refl in
-          (λ i. outcome (record { book = k i; step = Stopped r }) (l i)) ∙ s ∙ entered-whole
+          let s : outcome (record { book = b; answer = Err r }) ring ≡ outcome_of b ring region read (Entering.outcome e ring' table') = rw (p, z) refl in
+          (λ i. outcome (record { book = k i; answer = Err r }) (l i)) ∙ s ∙ entered-whole
 
       -- entered
-      pub taken-gone : (n : ℕ) (price : ℤ) → e.publication ≡ Count n → price ≡ get_or table' (region * markets_of b.services) (pos 0)
-          → outcome (record { book = e.book; step = Gone next number price }) ring' ≡ all
+      pub taken-gone : (n : ℕ) (price : ℤ) → e.answer ≡ Ok n → price ≡ get_or table' (region * markets_of b.services) (pos 0)
+          → outcome (record { book = e.book; answer = Ok (record { next = found.next; number = found.number; price = price }) }) ring' ≡ all
       taken-gone n price p q =
-          let s : outcome (record { book = e.book; step = Gone next number price }) ring' ≡ outcome_of b ring region read (Entering.outcome e ring' table') = rw (p, q) refl in
+          let s : outcome (record { book = e.book; answer = Ok (record { next = found.next; number = found.number; price = price }) }) ring' ≡ outcome_of b ring region read (Entering.outcome e ring' table') = rw (p, q) refl in
           s ∙ entered-whole
 
 -- ---- the room of its own: a part of blank numbers is blank

@@ -1,16 +1,16 @@
 -- An interval of a day: read from its records, then entered. Assumes nothing.
-use Rattle.std.specs.Prelude.{not, List, ℕ, ◌*◌, ℤ, pos, get_or, replicate}
+use Rattle.std.specs.Prelude.{Result, Ok, Err, not, List, ℕ, ◌*◌, ℤ, pos, get_or, replicate}
 use Rattle.laws.specs.Base.{pick}
 use Rattle.pricing.specs.Verdict.{Verdict, accepted}
 use Rattle.book.specs.declared.record.Book.{Book}
-use Rattle.book.specs.Record.{markets_of, table_size, link_count, verdict_of, is_accepted}
+use Rattle.book.specs.Record.{markets_of, table_size, link_count, verdict, is_accepted}
 use Rattle.publishing.specs.Entry.{entry_of}
 use Rattle.entries.specs.Entering as Entering
 use Rattle.interval_records.specs.Layout.{Interval, interval_of}
 use Rattle.intervals.specs.Reading as Reading
 use Rattle.interval_entry.specs.declared.Step.{Step}
-use Rattle.interval_entry.specs.declared.Step.TheVariants.{Gone, Stopped}
-use Rattle.interval_entry.specs.declared.Stepped.{Stepped}
+use Rattle.book.specs.declared.record.Reply.{Reply}
+use Rattle.book.specs.declared.record.Refusal.{Refusal}
 
 -- room of the book's own sizes for what is read and for what is published
 abbrev pub blank : Book → Interval
@@ -64,29 +64,25 @@ taken_into lent table b ring records at schedule region =
 abbrev pub taken : Book → List ℤ → List ℕ → ℕ → List ℤ → ℕ → Outcome
 taken b = taken_into (blank b) (blank_table b) b
 
--- the paper's number and values for each case
-abbrev pub verdict : Step → Verdict
-verdict (Gone next number price) = accepted
-verdict (Stopped r) = verdict_of r
+-- the paper's values for each case
+abbrev pub next_in : Result Step Refusal → ℕ
+next_in (Ok s) = s.next
+next_in (Err r) = 0
 
-abbrev pub next_in : Step → ℕ
-next_in (Gone next number price) = next
-next_in (Stopped r) = 0
+abbrev pub number_in : Result Step Refusal → ℕ
+number_in (Ok s) = s.number
+number_in (Err r) = 0
 
-abbrev pub number_in : Step → ℕ
-number_in (Gone next number price) = number
-number_in (Stopped r) = 0
+abbrev pub price_in : Result Step Refusal → ℤ
+price_in (Ok s) = s.price
+price_in (Err r) = pos 0
 
-abbrev pub price_in : Step → ℤ
-price_in (Gone next number price) = price
-price_in (Stopped r) = pos 0
-
-abbrev pub outcome : Stepped → List ℤ → Outcome
+abbrev pub outcome : Reply Step → List ℤ → Outcome
 outcome r ring = record {
-  verdict = verdict r.step;
-  next = next_in r.step;
-  number = number_in r.step;
-  price = price_in r.step;
+  verdict = verdict r.answer;
+  next = next_in r.answer;
+  number = number_in r.answer;
+  price = price_in r.answer;
   book = r.book;
   ring = ring;
 }

@@ -6,25 +6,16 @@ ghost use Rattle.book.specs.Record.{markets_of};
 ghost use Rattle.interval_records.specs.Layout.{interval_of};
 ghost use Rattle.interval_entry.specs.Taking.{taken_into, taken, outcome};
 
-use book::record::{Book, Refusal, link_count};
-use entries::{Publication, enter};
-use intervals::reading::{Found, read_interval};
+use book::record::{Book, Reply, link_count};
+use entries::{Entry, enter};
+use intervals::reading::read_interval;
 
-// The place after the interval with its number and a region's published energy price, or the first refusal.
+// The place after an interval that was entered, with its number and a region's published energy price.
 #[derive(Clone, Copy)]
-pub enum Step {
-    Gone {
-        next: usize,
-        number: u32,
-        price: i32,
-    },
-    Stopped(Refusal),
-}
-
-#[derive(Clone, Copy)]
-pub struct Stepped {
-    pub book: Book,
-    pub step: Step,
+pub struct Step {
+    pub next: usize,
+    pub number: u32,
+    pub price: i32,
 }
 
 // The interval at a place, read into the four slices, entered, and published into the table.
@@ -40,41 +31,46 @@ fn take_into(
     flows: &mut [i32],
     factors: &mut [u32],
     table: &mut [i32],
-) -> Stepped
+) -> Reply<Step>
     requires { (book.services ≤ 10) × (region ≤ 8) × (region * markets_of book.services < length table.old) }
     ensures { let lent = interval_of 0 0 prices.old marked.old flows.old factors.old in
         outcome result ring.new
         ≡ taken_into lent table.old book ring.old records.now at schedule.now region }
 {
     let read = read_interval(book, records, at, prices, marked, flows, factors);
-    let found = read.found;
-    match found {
-        Found::Refused(refusal) => Stepped {
-            book,
-            step: Step::Stopped(refusal),
-        },
-        Found::At { next, number, kind } => {
-            let entered = enter(
-                book, ring, number, kind, prices, marked, flows, factors, schedule, table,
-            );
-            let publication = entered.publication;
-            let after = entered.book;
-            let price = table[region * (book.services as usize + 1)];
-            match publication {
-                Publication::Refused(refusal) => Stepped {
-                    book: after,
-                    step: Step::Stopped(refusal),
-                },
-                Publication::Count(_) => Stepped {
-                    book: after,
-                    step: Step::Gone {
-                        next,
-                        number,
-                        price,
-                    },
-                },
-            }
+    let found = match read.answer {
+        Err(refusal) => {
+            return Reply {
+                book,
+                answer: Err(refusal),
+            };
         }
+        Ok(found) => found,
+    };
+    let number = found.number;
+    let entry = Entry {
+        kind: found.kind,
+        prices,
+        marked,
+        flows,
+        factors,
+        schedule,
+    };
+    let entered = enter(book, ring, number, &entry, table);
+    let price = table[region * (book.services as usize + 1)];
+    match entered.answer {
+        Err(refusal) => Reply {
+            book: entered.book,
+            answer: Err(refusal),
+        },
+        Ok(_) => Reply {
+            book: entered.book,
+            answer: Ok(Step {
+                next: found.next,
+                number,
+                price,
+            }),
+        },
     }
 }
 
@@ -86,7 +82,7 @@ pub fn take_interval(
     at: usize,
     schedule: &[i32],
     region: usize,
-) -> Stepped
+) -> Reply<Step>
     requires { (book.regions ≤ 8) × (book.services ≤ 10) × (region < book.regions) }
     ensures { outcome result ring.new
         ≡ taken book ring.old records.now at schedule.now region }

@@ -11,6 +11,7 @@ use lib.Dec.{eqb}
 use lib.IntN.{pos}
 use lib.ListN.{get_or}
 use Rattle.laws.proofs.Integers.{signed}
+use Rattle.entries.proofs.Founds.{some-found, none-found}
 use Rattle.laws.proofs.Lists.{flat-lt, first_below-found, first_below-none}
 use Rattle.entries.specs.Checking.{bad_price}
 use Rattle.entries.proofs.Bads.{bad-at}
@@ -33,7 +34,7 @@ pub returns-after-search : goal.returns-after-search
 returns-after-search c =
     let q = c.search in
     let e : c.search.region ≡ c.args.regions = omega arith in
-    c.search.invariant.1 ∙ sym (first_below-none _ _ (λ k h. c.search.invariant.2 k (rw e h)))
+    c.search.invariant.1 ∙ none-found _ _ (sym (first_below-none _ _ (λ k h. c.search.invariant.2 k (rw e h))))
 
 pub returns-then-marked-region : goal.returns-then-marked-region
 returns-then-marked-region c =
@@ -46,4 +47,4 @@ returns-then-marked-region c =
     let f : SFits w32 (get_or c.args.prices.now (r * c.args.markets + m) (pos 0)) = search rules in
     bad-at c.args.markets c.args.prices.now c.args.marked.now r m b c.loop-market-test.true (rw (simp (signed, f) at c.in_range.ensures) at e)) in
     let l = c.loop-market in
-    sym (first_below-found _ _ _ (here) c.loop-market.invariant.2 (tested true c.if-marked-region.true))
+    some-found _ _ _ (here) (sym (first_below-found _ _ _ (here) c.loop-market.invariant.2 (tested true c.if-marked-region.true)))
