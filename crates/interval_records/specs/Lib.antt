@@ -1,3 +1,4 @@
 pub mod Layout
 pub mod Record
 pub mod InOrder
+pub mod Working

@@ -1,58 +1,58 @@
-// The region records of an interval in number order: their refusals.
-ghost use Rattle.std.specs.Prelude.{◌≡◌, ◌+◌, ◌*◌, ◌≤◌, length};
+// An interval's records: their refusals, in whatever order its regions are to be, and in number order.
+ghost use Rattle.std.specs.Prelude.{◌≡◌, not, ℕ, ◌+◌, eqb};
+ghost use Rattle.laws.specs.Base.{pick};
+ghost use Rattle.pricing.specs.Verdict.{Verdict, accepted, refused};
 ghost use Rattle.book.specs.Record.{markets_of, verdict};
-ghost use Rattle.interval_records.specs.Layout.{region_length};
-ghost use Rattle.interval_records.specs.InOrder.{next_verdict, regions_verdict, ordered_verdict};
+ghost use Rattle.interval_records.specs.InOrder.{ordered_verdict};
+ghost use Rattle.interval_records.specs.Working.{Stands, Says, records_verdict};
 
 use crate::layout::region_length;
 use crate::record::{due_verdict, head_verdict, link_verdict};
-use book::record::{Answer, Refusal};
+use book::record::Refusal;
 use codec::get_u8;
 
-// 40, 41 and 45 of region record `k` of those from `first` on.
-fn next_verdict(services: u8, bytes: &[u8], first: usize, k: usize) -> Answer
-    requires { first + k * region_length (markets_of services) ≤ length bytes.now }
-    ensures { verdict result ≡ next_verdict (markets_of services) bytes.now first k }
+// 40 and 41 of an interval's records and what `test` says of each region's number and region, the additional link's behind them.
+pub fn records_verdict<F: Fn(usize, u8) -> Result<(), Refusal>>(
+    linked: bool,
+    regions: u8,
+    services: u8,
+    bytes: &[u8],
+    at: usize,
+    test: F,
+) -> Result<(), Refusal>
+    requires { (k region : ℕ) → Stands (markets_of services) bytes.now (at + 12) regions k region → F.pre test k region }
+    ensures { (own : ℕ → Verdict) → Says (F.post test) (markets_of services) bytes.now (at + 12) regions own
+        → verdict result ≡ records_verdict own linked regions (markets_of services) bytes.now at }
 {
-    let at = first + k * region_length(services);
-    let answer = due_verdict(17, services, bytes, at);
-    if let Answer::Refused(_) = answer {
-        return answer;
+    head_verdict(regions, services, bytes, at)?;
+    let size = region_length(services);
+    for k in 0..regions as usize {
+        let place = at + 12 + k * size;
+        due_verdict(17, services, bytes, place)?;
+        test(k, get_u8(bytes, place + 6))?;
     }
-    if get_u8(bytes, at + 6) as usize != k {
-        return Answer::Refused(Refusal::RecordOrder);
-    }
-    Answer::Accepted
+    link_verdict(linked, services, bytes, at + 12 + regions as usize * size)
 }
 
-// The first refusal of the region records from `first` on.
-fn nexts_verdict(regions: u8, services: u8, bytes: &[u8], first: usize) -> Answer
-    requires { first ≤ length bytes.now }
-    ensures { verdict result ≡ regions_verdict regions (markets_of services) bytes.now first }
+// 45 of region record `k`, which names a region.
+fn next_verdict(k: usize, region: u8) -> Result<(), Refusal>
+    ensures { verdict result ≡ pick (not (eqb region k)) (refused 45) accepted }
 {
-    let mut k: usize = 0;
-    while k < regions as usize {
-        let answer = next_verdict(services, bytes, first, k);
-        if let Answer::Refused(_) = answer {
-            return answer;
-        }
-        k += 1;
+    if region as usize != k {
+        return Err(Refusal::RecordOrder);
     }
-    Answer::Accepted
+    Ok(())
 }
 
 // 40, 41 and 45 of an interval's records, its regions in number order, the additional link's behind them.
-pub fn ordered_verdict(linked: bool, regions: u8, services: u8, bytes: &[u8], at: usize) -> Answer
+pub fn ordered_verdict(
+    linked: bool,
+    regions: u8,
+    services: u8,
+    bytes: &[u8],
+    at: usize,
+) -> Result<(), Refusal>
     ensures { verdict result ≡ ordered_verdict linked regions (markets_of services) bytes.now at }
 {
-    let answer = head_verdict(regions, services, bytes, at);
-    if let Answer::Refused(_) = answer {
-        return answer;
-    }
-    let next = nexts_verdict(regions, services, bytes, at + 12);
-    if let Answer::Refused(_) = next {
-        return next;
-    }
-    let place = at + 12 + regions as usize * region_length(services);
-    link_verdict(linked, services, bytes, place)
+    records_verdict(linked, regions, services, bytes, at, next_verdict)
 }

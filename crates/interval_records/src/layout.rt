@@ -11,7 +11,7 @@ pub fn region_length(services: u8) -> usize
     16 + 4 * (services as usize + 1)
 }
 
-// The length of the additional link's record, or 0 where there is no such link.
+// The length of the additional link's record, or 0 where there is no such link. Kept: it is a length, which `interval_length` adds.
 pub fn link_length(linked: bool) -> usize
     ensures { (result ≡ pick linked link_length 0) × (result ≤ 14) }
 {

@@ -7,14 +7,15 @@ use native.Mathlib.Nat.{not-suc-le-zero}
 use native.Mathlib.Omega.{arith}
 use borrow.Author.Tests.{eq-eqb, ne_eqb, eqb-true, lt-ltb, ltb-true}
 use lib.Dec.{eqb, ltb}
+use Rattle.laws.specs.Base.{pick}
 use Rattle.laws.specs.Lists.{any_below, first_below}
 use Rattle.laws.specs.Bytes.{number_at}
 use Rattle.laws.proofs.Tests.{by-test, never, true-is}
 use Rattle.laws.proofs.Lists.{any_at, first_below-found}
-use Rattle.pricing.specs.Verdict.{accepted}
+use Rattle.pricing.specs.Verdict.{accepted, refused}
 use Rattle.book.specs.Record.{is_accepted}
 use Rattle.interval_records.specs.Layout.{head_length}
-use Rattle.interval_records.specs.Record.{due_verdict, head_verdict, record_place, region_at}
+use Rattle.interval_records.specs.Record.{due_verdict, link_verdict, head_verdict, record_place, region_at}
 use Rattle.interval_rewriter.specs.AnyOrder.{stray, region_verdict, regions_verdict, records_verdict, record_of}
 use Rattle.interval_rewriter.proofs.Counting.{found}
 use Rattle.interval_records.proofs.Wholes.{Due, LinkDue, due-accepted, accepted-due, link-is, is-link, all-accepted, accepted-all}
@@ -41,7 +42,9 @@ module _ (R M : ℕ) (bytes : List ℕ) (first k : ℕ) where
   pub region-is : is_accepted (region_verdict R M bytes first k) ≡ true
       → Due 17 M bytes (record_place M first k) × (region_at M bytes first k < R) × (given-before ≡ false)
   unfolding region_verdict
-  region-is e =
+  region-is v =
+      let due = due_verdict 17 M bytes (record_place M first k) in
+      let e : is_accepted (pick (not (is_accepted due)) due (pick (stray R M bytes first k) (refused 42) accepted)) ≡ true = v in
       by-test (is_accepted (due_verdict 17 M bytes (record_place M first k)))
       (λ a. by-test (stray R M bytes first k)
       (λ s. absurd (true-is (rw (a, s) at e)))
@@ -93,7 +96,10 @@ module _ (linked : Bool) (R M : ℕ) (bytes : List ℕ) (at : ℕ) where
 
   pub regions-passed : is_accepted (records_verdict linked R M bytes at) ≡ true → is_accepted (regions_verdict R M bytes (at + head_length)) ≡ true
   unfolding records_verdict
-  regions-passed e =
+  regions-passed v =
+      let head = head_verdict R M bytes at in
+      let others = regions_verdict R M bytes (at + head_length) in
+      let e : is_accepted (pick (not (is_accepted head)) head (pick (not (is_accepted others)) others (link_verdict linked M bytes place))) ≡ true = v in
       by-test (is_accepted (head_verdict R M bytes at))
       (λ a. by-test (is_accepted (regions_verdict R M bytes (at + head_length))) (λ b. b)
       (λ b. never (is_accepted (regions_verdict R M bytes (at + head_length))) (rw (a, b) at e) b))

@@ -5,40 +5,50 @@ use mathlib.Core.Bool.{Bool, true, false}
 use mathlib.Core.List.{List, ◌++◌}
 use Prim.Native.Nat.{ℕ, ◌+◌, ◌*◌, ◌<◌, ◌≤◌}
 use native.Mathlib.Omega.{arith}
-use borrow.Author.Tests.{lt-ltb, le-ltb, ltb-false}
+use borrow.Author.Tests.{lt-ltb, le-ltb, ltb-true, ltb-false}
+use Rattle.std.proofs.Common.{Option, Some, None, append_assoc}
 use lib.Dec.{ltb}
-use lib.ListN.{length, get_or, take, drop, length-append, length-drop}
-use lib.Seq.{sets, length-take-le}
+use lib.ListN.{length, take, drop, length-append, length-drop}
+use lib.Seq.{sets, sets-eq, drop-drop, length-take-le}
 use Rattle.laws.specs.Base.{pick}
-use Rattle.laws.specs.Lists.{tabulate, joined}
+use Rattle.laws.specs.Lists.{joined}
 use Rattle.laws.proofs.Bytes.{sets-front}
 use Rattle.laws.proofs.Fields.{part_then}
-use Rattle.laws.proofs.Joined.{take-run, length-joined, sum_same}
-use Rattle.laws.proofs.Lists.{run-same}
+use Rattle.laws.proofs.Joined.{length-joined, sum_same}
 use Rattle.laws.proofs.Tests.{by-test, true-is}
 use Rattle.pricing.specs.Verdict.{refused}
 use Rattle.book.specs.declared.record.Book.{Book}
 use Rattle.book.specs.declared.record.Refusal.{Refusal}
-use Rattle.book.specs.declared.record.Answer.{Answer}
-use Rattle.book.specs.declared.record.Answer.TheVariants.{Accepted, Refused}
+use Rattle.std.specs.Prelude.{Result, Ok, Err}
 use Rattle.book.specs.Record.{markets_of, has_link, verdict, is_accepted}
 use Rattle.book.specs.Validity.{valid}
 use Rattle.book.proofs.Ways.{refusal_is}
 use Rattle.interval_records.specs.Layout.{head_length, region_length, link_length, interval_length, length_for}
 use Rattle.interval_records.specs.Record.{record_place}
 use Rattle.interval_records.proofs.InOrder.{dues-room, whole_room}
-use Rattle.interval_rewriter.specs.declared.rewriting.Place.TheVariants.{After, Refused as Not-rewritten}
 use Rattle.interval_rewriter.specs.AnyOrder.{records_verdict, record_of}
 use Rattle.interval_rewriter.specs.Rewriting.{rewrite_verdict, record_bytes, link_bytes, reordered, outcome, rewrite_interval}
 use Rattle.interval_rewriter.proofs.AnyOrder.{Named, Given, given_is, record-below}
 
--- ---- bytes moved one by one are the part of which they are
-pub part-is : (bytes : List ℕ) (from n : ℕ) → from + n ≤ length bytes → tabulate n (λ k. get_or bytes (from + k) 0) ≡ take n (drop from bytes)
-part-is bytes from n h =
-    run-same n 0 from (λ k. get_or bytes (from + k) 0) (λ k. get_or bytes k 0) (λ k l. let z : 0 + k ≡ k = omega arith in rw z refl)
-    ∙ sym (take-run 0 bytes n from h)
+-- ---- what a search below R answers, and what its answer means
+module _ (R k x : ℕ) where
+  pub found-some : k < R → x ≡ k → Some k ≡ pick (ltb x R) (Some x) None
+  found-some h e = rw (e, lt-ltb k R h) refl
 
-part_length : (bytes : List ℕ) (from n : ℕ) → from + n ≤ length bytes → length (take n (drop from bytes)) ≡ n
+  pub some-found : pick (ltb x R) (Some x) None ≡ Some k → (x < R) × (x ≡ k)
+  some-found e = by-test (ltb x R) (λ t. let q : Some x ≡ Some k = rw t at e in (ltb-true x R t, cc)) (λ t. let q : ◌≡◌ {A = Option ℕ} None (Some k) = rw t at e in cc)
+
+pub found-none : (R x : ℕ) → x ≡ R → None ≡ pick (ltb x R) (Some x) None
+found-none R x e = rw (e, le-ltb R R (omega arith)) refl
+
+-- ---- bytes put in the place of as many
+pub part-put : (l ys vs : List ℕ) (at k n : ℕ) → ys ≡ vs → length vs ≡ n → k ≡ n → at + n ≤ length l
+    → take at l ++ (ys ++ drop k (drop at l)) ≡ sets l at vs
+part-put l ys vs at k n e h q room =
+    let d : drop k (drop at l) ≡ drop (at + length vs) l = drop-drop k at l ∙ ap (λ (m : ℕ). drop m l) (omega (arith, h, q)) in
+    rw (e, d) (sym (append_assoc (take at l) vs (drop (at + length vs) l)) ∙ sym (sets-eq vs l at (omega (arith, h, room))))
+
+pub part_length : (bytes : List ℕ) (from n : ℕ) → from + n ≤ length bytes → length (take n (drop from bytes)) ≡ n
 part_length bytes from n h = length-take-le n (drop from bytes) (simp length-drop (omega arith))
 
 -- ---- the room of the records, and how long each is and all are together
@@ -107,16 +117,16 @@ accepted-rewrites b bytes at room e =
     (λ a. absurd (true-is (rw a at e)))
 
 -- ---- the call, by the answer of its tests
-module _ (b : Book) (bytes : List ℕ) (at : ℕ) (buffer : List ℕ) (a : Answer) (h : verdict a ≡ rewrite_verdict b bytes at (length buffer)) where
-  pub rewritten-refused : (r : Refusal) → a ≡ Refused r
-      → outcome (record { book = b; place = Not-rewritten r }) buffer ≡ rewrite_interval b bytes at buffer
+module _ (b : Book) (bytes : List ℕ) (at : ℕ) (buffer : List ℕ) (a : Result Unit Refusal) (h : verdict a ≡ rewrite_verdict b bytes at (length buffer)) where
+  pub rewritten-refused : (r : Refusal) → a ≡ Err r
+      → outcome (record { book = b; answer = Err r }) buffer ≡ rewrite_interval b bytes at buffer
   unfolding rewrite_interval
   rewritten-refused r q =
-      let p : verdict (Refused r) ≡ rewrite_verdict b bytes at (length buffer) = ap verdict (sym q) ∙ h in
+      let p : verdict {T = Unit} (Err r) ≡ rewrite_verdict b bytes at (length buffer) = ap verdict (sym q) ∙ h in
       let z : is_accepted (rewrite_verdict b bytes at (length buffer)) ≡ false = rw (← p) (refusal_is r) in
       rw (z, p) refl
 
-  module _ (q : a ≡ Accepted) where
+  module _ (q : a ≡ Ok tt) where
     is-accepted : is_accepted (rewrite_verdict b bytes at (length buffer)) ≡ true
     is-accepted = rw (← h, q) refl
 
@@ -153,7 +163,7 @@ module _ (b : Book) (bytes : List ℕ) (at : ℕ) (buffer : List ℕ) (a : Answe
         → head ≡ sets buffer 0 (take head_length (drop at bytes))
         → others ≡ sets head head_length (joined R 0 (record_bytes R M bytes (at + head_length)))
         → all ≡ sets others (head_length + R * region_length M) (link_bytes linked R M bytes (at + head_length))
-        → outcome (record { book = b; place = After next }) all ≡ rewrite_interval b bytes at buffer
+        → outcome (record { book = b; answer = Ok next }) all ≡ rewrite_interval b bytes at buffer
     unfolding rewrite_interval
     rewritten-accepted next head others all l e f g =
         let k : length (reordered linked R M bytes at) ≡ length_for b = reordered-length linked R M bytes at asks-given in

@@ -1,3 +1,4 @@
 pub mod AnyOrder
 pub mod Earlier
 pub mod Rewriting
+pub mod Working

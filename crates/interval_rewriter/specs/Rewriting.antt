@@ -1,14 +1,13 @@
 -- An interval of the earlier form written anew, its regions in number order. Assumes nothing.
-use Rattle.std.specs.Prelude.{Bool, not, List, ◌++◌, ℕ, ◌+◌, ltb, length, take, drop}
+use Rattle.std.specs.Prelude.{Result, Ok, Err, Bool, not, List, ◌++◌, ℕ, ◌+◌, ltb, length, take, drop}
 use Rattle.laws.specs.Base.{pick}
 use Rattle.laws.specs.Lists.{joined}
 use Rattle.pricing.specs.Verdict.{Verdict, accepted, refused}
 use Rattle.book.specs.declared.record.Book.{Book}
-use Rattle.book.specs.Record.{markets_of, has_link, verdict_of, is_accepted}
+use Rattle.book.specs.Record.{markets_of, has_link, verdict, is_accepted}
 use Rattle.book.specs.Validity.{valid}
-use Rattle.interval_rewriter.specs.declared.rewriting.Place.{Place}
-use Rattle.interval_rewriter.specs.declared.rewriting.Place.TheVariants.{After, Refused}
-use Rattle.interval_rewriter.specs.declared.rewriting.Rewritten.{Rewritten}
+use Rattle.book.specs.declared.record.Reply.{Reply}
+use Rattle.book.specs.declared.record.Refusal.{Refusal}
 use Rattle.interval_records.specs.Layout.{head_length, region_length, link_length, length_for}
 use Rattle.interval_records.specs.Record.{record_place}
 use Rattle.interval_rewriter.specs.AnyOrder.{record_of, records_verdict}
@@ -42,16 +41,12 @@ pub record Outcome : Type 0 where
   pub book : Book
   pub buffer : List ℕ
 
-abbrev pub verdict : Place → Verdict
-verdict (After next) = accepted
-verdict (Refused r) = verdict_of r
+abbrev pub next_in : Result ℕ Refusal → ℕ
+next_in (Ok next) = next
+next_in (Err r) = 0
 
-abbrev pub next_in : Place → ℕ
-next_in (After next) = next
-next_in (Refused r) = 0
-
-abbrev pub outcome : Rewritten → List ℕ → Outcome
-outcome r buffer = record { verdict = verdict r.place; next = next_in r.place; book = r.book; buffer = buffer }
+abbrev pub outcome : Reply ℕ → List ℕ → Outcome
+outcome r buffer = record { verdict = verdict r.answer; next = next_in r.answer; book = r.book; buffer = buffer }
 
 -- "writes it from the buffer's start .. and answers the place after the one taken"; the bytes after the interval stay
 unfoldable pub rewrite_interval : Book → List ℕ → ℕ → List ℕ → Outcome

@@ -8,33 +8,16 @@ ghost use Rattle.interval_rewriter.specs.AnyOrder.{regions_verdict};
 ghost use Rattle.interval_rewriter.specs.Rewriting.{rewrite_verdict, record_bytes, outcome, rewrite_interval};
 
 use crate::any_order::{record_of, records_verdict};
-use book::record::{Answer, Book, Refusal, has_link};
+use book::record::{Book, Refusal, Reply, has_link};
 use book::validity::valid;
 use interval_records::layout::{interval_length, link_length};
-
-// The place after the interval that was taken, or the first refusal.
-#[derive(Clone, Copy)]
-pub enum Place {
-    After(usize),
-    Refused(Refusal),
-}
-
-#[derive(Clone, Copy)]
-pub struct Rewritten {
-    pub book: Book,
-    pub place: Place,
-}
 
 // `n` bytes from a place, put at a place of the buffer: a record moves as it stands.
 fn copy(bytes: &[u8], from: usize, n: usize, buffer: &mut [u8], to: usize)
     requires { (from + n ≤ length bytes.now) × (to + n ≤ length buffer.old) }
     ensures { buffer.new ≡ sets buffer.old to (take n (drop from bytes.now)) }
 {
-    let mut i: usize = 0;
-    while i < n {
-        buffer[to + i] = bytes[from + i];
-        i += 1;
-    }
+    buffer[to..to + n].copy_from_slice(&bytes[from..from + n]);
 }
 
 // The records of all regions, in number order, behind the head.
@@ -47,38 +30,37 @@ fn copy_records(regions: usize, markets: usize, bytes: &[u8], at: usize, buffer:
 {
     let first = at + 12;
     let size = 16 + 4 * markets;
-    let mut r: usize = 0;
-    while r < regions {
-        let k = record_of(regions, markets, bytes, first, r);
-        copy(bytes, first + k * size, size, buffer, 12 + r * size);
-        r += 1;
+    for r in 0..regions {
+        if let Some(k) = record_of(regions, markets, bytes, first, r) {
+            copy(bytes, first + k * size, size, buffer, 12 + r * size);
+        }
     }
 }
 
 // 10 and 23, then 40 to 42. The buffer is told by its length.
-fn rewrite_verdict(book: Book, bytes: &[u8], at: usize, room: usize) -> Answer
+fn rewrite_verdict(book: Book, bytes: &[u8], at: usize, room: usize) -> Result<(), Refusal>
     ensures { verdict result ≡ rewrite_verdict book bytes.now at room }
 {
     if !valid(book) {
-        return Answer::Refused(Refusal::Invalid);
+        return Err(Refusal::Invalid);
     }
     let linked = has_link(book);
     if room < interval_length(linked, book.regions, book.services) {
-        return Answer::Refused(Refusal::Buffer);
+        return Err(Refusal::Buffer);
     }
     records_verdict(linked, book.regions, book.services, bytes, at)
 }
 
-// Writes the interval at a place as the first bytes of the buffer, its regions in number order, and hands the book back; the bytes after
-// it stay.
-pub fn rewrite_interval(book: Book, bytes: &[u8], at: usize, buffer: &mut [u8]) -> Rewritten
+// Writes the interval at a place as the first bytes of the buffer, its regions in number order, and answers the place after it; the
+// bytes after it in the buffer stay, and the book is handed back.
+pub fn rewrite_interval(book: Book, bytes: &[u8], at: usize, buffer: &mut [u8]) -> Reply<usize>
     ensures { outcome result buffer.new ≡ rewrite_interval book bytes.now at buffer.old }
 {
     let answer = rewrite_verdict(book, bytes, at, buffer.len());
-    if let Answer::Refused(refusal) = answer {
-        return Rewritten {
+    if let Err(refusal) = answer {
+        return Reply {
             book,
-            place: Place::Refused(refusal),
+            answer: Err(refusal),
         };
     }
     let markets = book.services as usize + 1;
@@ -87,8 +69,8 @@ pub fn rewrite_interval(book: Book, bytes: &[u8], at: usize, buffer: &mut [u8]) 
     let records = interval_length(false, book.regions, book.services);
     let last = link_length(has_link(book));
     copy(bytes, at + records, last, buffer, records);
-    Rewritten {
+    Reply {
         book,
-        place: Place::After(at + records + last),
+        answer: Ok(at + records + last),
     }
 }

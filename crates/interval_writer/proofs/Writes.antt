@@ -22,18 +22,16 @@ use Rattle.laws.proofs.Tests.{by-test, true-is}
 use Rattle.pricing.specs.Verdict.{accepted, refused}
 use Rattle.book.specs.declared.record.Book.{Book}
 use Rattle.book.specs.declared.record.Refusal.{Refusal}
-use Rattle.book.specs.declared.record.Answer.{Answer}
-use Rattle.book.specs.declared.record.Answer.TheVariants.{Accepted, Refused}
+use Rattle.std.specs.Prelude.{Result, Ok, Err}
 use Rattle.book.specs.Record.{markets_of, has_link, verdict, is_accepted}
 use Rattle.book.specs.Validity.{valid}
 use Rattle.book.proofs.Ways.{refusal_is}
-use Rattle.interval_records.specs.Layout.{Interval, interval_of, head_widths, head_length, region_widths, region_length, link_widths, link_length, row_of}
+use Rattle.interval_records.specs.Layout.{Interval, head_widths, head_length, region_widths, region_length, link_widths, link_length, row_of}
 use Rattle.interval_records.specs.Layout.{length_for, head_record, region_record, link_record, interval_bytes}
 use Rattle.intervals.specs.Lent.{lengths_ok, slices_ok}
 use Rattle.intervals.specs.Working.{lent_verdict}
 use Rattle.interval_records.proofs.Says.{region-length}
 use Rattle.intervals.proofs.Intervals.{bytes-length, joined_length}
-use Rattle.interval_writer.specs.declared.writing.Size.TheVariants.{Length, Refused as Not-written}
 use Rattle.interval_writer.specs.Writing.{write_lengths, write_verdict, outcome, write_interval}
 
 -- ---- fields put one behind the other
@@ -151,29 +149,29 @@ lengths-by b prices marked flows factors room =
     (λ a. by-test (lengths_ok b prices marked flows factors) (λ l. rw (a, l) refl) (λ l. rw (a, l) refl))
     (λ a. rw a refl)
 
-module _ (b : Book) (prices marked flows factors room : ℕ) (a : Answer) (h : verdict a ≡ lent_verdict b prices marked flows factors) where
-  pub write-lent : (r : Refusal) → a ≡ Refused r → verdict a ≡ write_lengths b prices marked flows factors room
+module _ (b : Book) (prices marked flows factors room : ℕ) (a : Result Unit Refusal) (h : verdict a ≡ lent_verdict b prices marked flows factors) where
+  pub write-lent : (r : Refusal) → a ≡ Err r → verdict a ≡ write_lengths b prices marked flows factors room
   write-lent r q =
       let z : is_accepted (lent_verdict b prices marked flows factors) ≡ false = rw (← h, q) (refusal_is r) in
       rw (lengths-by b prices marked flows factors room, z) h
 
-  is-lent : a ≡ Accepted → is_accepted (lent_verdict b prices marked flows factors) ≡ true
+  is-lent : a ≡ Ok tt → is_accepted (lent_verdict b prices marked flows factors) ≡ true
   is-lent q = rw (← h, q) refl
 
-  pub write-23 : a ≡ Accepted → room < length_for b → refused 23 ≡ write_lengths b prices marked flows factors room
+  pub write-23 : a ≡ Ok tt → room < length_for b → refused 23 ≡ write_lengths b prices marked flows factors room
   write-23 q l = rw (lengths-by b prices marked flows factors room, is-lent q, lt-ltb room (length_for b) l) refl
 
-  pub write-0 : a ≡ Accepted → length_for b ≤ room → accepted ≡ write_lengths b prices marked flows factors room
+  pub write-0 : a ≡ Ok tt → length_for b ≤ room → accepted ≡ write_lengths b prices marked flows factors room
   write-0 q l = rw (lengths-by b prices marked flows factors room, is-lent q, le-ltb room (length_for b) l) refl
 
 -- ---- the call, by the answer of its tests
--- the head, then the regions, whose records say nothing of the interval's number and day kind, then the additional link
+-- the head, then the regions, then the additional link
 interval-puts : (linked : Bool) (R M : ℕ) (v : Interval) (buffer head others all : List ℕ)
     → head ≡ sets buffer 0 (encode head_widths (head_length ∷ 16 ∷ v.number ∷ v.kind ∷ R ∷ []))
-    → others ≡ sets head head_length (joined R 0 (region_record M (interval_of 0 0 v.prices v.marked v.flows v.factors)))
-    → all ≡ sets others (head_length + R * region_length M) (pick linked (link_record R (interval_of 0 0 [] [] v.flows v.factors)) [])
+    → others ≡ sets head head_length (joined R 0 (region_record M v))
+    → all ≡ sets others (head_length + R * region_length M) (pick linked (link_record R v) [])
     → all ≡ sets buffer 0 (interval_bytes linked R M v)
-unfolding interval_bytes head_record head_widths size_of region_record link_record
+unfolding interval_bytes head_record head_widths size_of
 interval-puts linked R M v buffer head others all e f g =
     let vs = head_length ∷ 16 ∷ v.number ∷ v.kind ∷ R ∷ [] in
     let z : length (encode head_widths vs) ≡ 12 = length-encode head_widths vs refl in
@@ -183,27 +181,27 @@ interval-puts linked R M v buffer head others all e f g =
     part_then buffer head all (encode head_widths vs) (rows ++ last) 0 12 (omega (arith, z)) e
     (part_then head others all rows last 12 (12 + R * region_length M) (omega (arith, y)) f g)
 
-module _ (b : Book) (v : Interval) (buffer : List ℕ) (a : Answer) (h : verdict a ≡ write_verdict b v (length buffer)) where
-  pub written-refused : (r : Refusal) → a ≡ Refused r
-      → outcome (record { book = b; size = Not-written r }) buffer ≡ write_interval b v buffer
+module _ (b : Book) (v : Interval) (buffer : List ℕ) (a : Result Unit Refusal) (h : verdict a ≡ write_verdict b v (length buffer)) where
+  pub written-refused : (r : Refusal) → a ≡ Err r
+      → outcome (record { book = b; answer = Err r }) buffer ≡ write_interval b v buffer
   unfolding write_interval
   written-refused r q =
-      let p : verdict (Refused r) ≡ write_verdict b v (length buffer) = ap verdict (sym q) ∙ h in
+      let p : verdict {T = Unit} (Err r) ≡ write_verdict b v (length buffer) = ap verdict (sym q) ∙ h in
       let z : is_accepted (write_verdict b v (length buffer)) ≡ false = rw (← p) (refusal_is r) in
       rw (z, p) refl
 
-  is-accepted : a ≡ Accepted → is_accepted (write_verdict b v (length buffer)) ≡ true
+  is-accepted : a ≡ Ok tt → is_accepted (write_verdict b v (length buffer)) ≡ true
   is-accepted q = rw (← h, q) refl
 
-  pub write-asks : a ≡ Accepted → Writes b v (length buffer)
+  pub write-asks : a ≡ Ok tt → Writes b v (length buffer)
   write-asks q = accepted-writes b v (length buffer) (is-accepted q)
 
-  pub written-accepted : a ≡ Accepted → let R = b.regions in let M = markets_of b.services in
+  pub written-accepted : a ≡ Ok tt → let R = b.regions in let M = markets_of b.services in
       (n : ℕ) (head others all : List ℕ) → n ≡ length_for b
       → head ≡ sets buffer 0 (encode head_widths (head_length ∷ 16 ∷ v.number ∷ v.kind ∷ R ∷ []))
-      → others ≡ sets head head_length (joined R 0 (region_record M (interval_of 0 0 v.prices v.marked v.flows v.factors)))
-      → all ≡ sets others (head_length + R * region_length M) (pick (has_link b) (link_record R (interval_of 0 0 [] [] v.flows v.factors)) [])
-      → outcome (record { book = b; size = Length n }) all ≡ write_interval b v buffer
+      → others ≡ sets head head_length (joined R 0 (region_record M v))
+      → all ≡ sets others (head_length + R * region_length M) (pick (has_link b) (link_record R v) [])
+      → outcome (record { book = b; answer = Ok n }) all ≡ write_interval b v buffer
   unfolding write_interval
   written-accepted q n head others all l e f g =
       let bytes = interval_bytes (has_link b) b.regions (markets_of b.services) v in

@@ -1,13 +1,12 @@
 -- Writing an interval as records. Assumes nothing.
-use Rattle.std.specs.Prelude.{not, List, ◌++◌, ℕ, ltb, length, drop}
+use Rattle.std.specs.Prelude.{Result, Ok, Err, not, List, ◌++◌, ℕ, ltb, length, drop}
 use Rattle.laws.specs.Base.{pick}
 use Rattle.pricing.specs.Verdict.{Verdict, accepted, refused}
 use Rattle.book.specs.declared.record.Book.{Book}
-use Rattle.book.specs.Record.{markets_of, has_link, verdict_of, is_accepted}
+use Rattle.book.specs.Record.{markets_of, has_link, verdict, is_accepted}
 use Rattle.book.specs.Validity.{valid}
-use Rattle.interval_writer.specs.declared.writing.Size.{Size}
-use Rattle.interval_writer.specs.declared.writing.Size.TheVariants.{Length, Refused}
-use Rattle.interval_writer.specs.declared.writing.Written.{Written}
+use Rattle.book.specs.declared.record.Reply.{Reply}
+use Rattle.book.specs.declared.record.Refusal.{Refusal}
 use Rattle.interval_records.specs.Layout.{Interval, length_for, interval_bytes}
 use Rattle.intervals.specs.Lent.{lengths_ok}
 
@@ -29,16 +28,12 @@ pub record Outcome : Type 0 where
   pub book : Book
   pub buffer : List ℕ
 
-abbrev pub verdict : Size → Verdict
-verdict (Length n) = accepted
-verdict (Refused r) = verdict_of r
+abbrev pub length_in : Result ℕ Refusal → ℕ
+length_in (Ok n) = n
+length_in (Err r) = 0
 
-abbrev pub length_in : Size → ℕ
-length_in (Length n) = n
-length_in (Refused r) = 0
-
-abbrev pub outcome : Written → List ℕ → Outcome
-outcome r buffer = record { verdict = verdict r.size; length = length_in r.size; book = r.book; buffer = buffer }
+abbrev pub outcome : Reply ℕ → List ℕ → Outcome
+outcome r buffer = record { verdict = verdict r.answer; length = length_in r.answer; book = r.book; buffer = buffer }
 
 -- "from the buffer's start"; the bytes after the interval stay
 unfoldable pub write_interval : Book → Interval → List ℕ → Outcome

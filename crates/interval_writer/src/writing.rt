@@ -8,25 +8,33 @@ ghost use Rattle.laws.specs.Lists.{joined};
 ghost use Rattle.laws.specs.Bytes.{encode, words};
 ghost use Rattle.book.specs.Record.{markets_of, verdict};
 ghost use Rattle.interval_records.specs.Layout.{head_widths, head_length, region_widths, region_length, link_widths, link_length};
-ghost use Rattle.interval_records.specs.Layout.{row_of, region_record, link_record, interval_of};
-ghost use Rattle.interval_writer.specs.Writing.{write_lengths, outcome, write_interval};
+ghost use Rattle.interval_records.specs.Layout.{row_of, region_record, link_record};
+ghost use Rattle.interval_writer.specs.Writing.{write_verdict, outcome, write_interval};
 
-use book::record::{Answer, Book, Refusal, has_link};
+use book::record::{Book, Refusal, Reply, has_link};
 use codec::{bits32, put, put_words};
 use interval_records::layout::{interval_length, region_length};
 use intervals::lent::lent_verdict;
+use std::marker::Model;
 
-// The interval's length in bytes, or the first refusal.
-#[derive(Clone, Copy)]
-pub enum Size {
-    Length(usize),
-    Refused(Refusal),
+// What a write is lent: the interval's number, day kind, prices, marks, flows and factors, of any lengths: the call tests them. A contract
+// sees it as the record of interval_records' Layout.
+#[derive(Drop)]
+pub struct Interval<'a> {
+    pub number: u32,
+    pub kind: u8,
+    pub prices: &'a [i32],
+    pub marked: &'a [u8],
+    pub flows: &'a [i32],
+    pub factors: &'a [u32],
 }
 
-#[derive(Clone, Copy)]
-pub struct Written {
-    pub book: Book,
-    pub size: Size,
+impl<'a> Model for Interval<'a> {
+    ghost use Rattle.interval_records.specs.Layout.{Interval as Said, interval_of};
+
+    ghost Value = { Said };
+
+    ghost view = { λ a. interval_of a.number a.kind a.prices.now a.marked.now a.flows.now a.factors.now };
 }
 
 // The head of an interval as the first bytes of the buffer.
@@ -72,35 +80,24 @@ fn put_region(
 }
 
 // The records of all regions, upward, behind the head.
-fn put_regions(
-    buffer: &mut [u8],
-    regions: usize,
-    services: u8,
-    prices: &[i32],
-    marked: &[u8],
-    flows: &[i32],
-    factors: &[u32],
-)
+fn put_regions(buffer: &mut [u8], regions: usize, services: u8, interval: &Interval)
     requires services_in_bounds { head_length + regions * region_length (markets_of services) ≤ length buffer.old }
-    requires services_in_bounds_2 { (regions * markets_of services ≤ length prices.now) × (regions ≤ length marked.now) }
-    requires regions_in_bounds { (regions ≤ length flows.now) × (regions ≤ length factors.now) }
-    ensures { let v = interval_of 0 0 prices.now marked.now flows.now factors.now in
-        buffer.new ≡ sets buffer.old head_length (joined regions 0 (region_record (markets_of services) v)) }
+    requires services_in_bounds_2 { (regions * markets_of services ≤ length interval.now.prices) × (regions ≤ length interval.now.marked) }
+    requires regions_in_bounds { (regions ≤ length interval.now.flows) × (regions ≤ length interval.now.factors) }
+    ensures { buffer.new ≡ sets buffer.old head_length (joined regions 0 (region_record (markets_of services) interval.now)) }
 {
     let size = region_length(services);
-    let mut r: usize = 0;
-    while r < regions {
+    for r in 0..regions {
         put_region(
             buffer,
             12 + r * size,
             services,
             r,
-            prices,
-            marked[r],
-            flows[r],
-            factors[r],
+            interval.prices,
+            interval.marked[r],
+            interval.flows[r],
+            interval.factors[r],
         );
-        r += 1;
     }
 }
 
@@ -117,91 +114,58 @@ fn put_link(buffer: &mut [u8], at: usize, flow: i32, factor: u32)
 }
 
 // The record of the additional link, of the last flow and factor, behind those of the regions, where there is the link.
-fn put_last(
-    linked: bool,
-    buffer: &mut [u8],
-    regions: usize,
-    services: u8,
-    flows: &[i32],
-    factors: &[u32],
-)
+fn put_last(linked: bool, buffer: &mut [u8], regions: usize, services: u8, interval: &Interval)
     requires link_length_in_bounds { linked ≡ true → head_length + regions * region_length (markets_of services) + link_length ≤ length buffer.old }
-    requires regions_in_bounds { linked ≡ true → (regions < length flows.now) × (regions < length factors.now) }
-    ensures { let v = interval_of 0 0 [] [] flows.now factors.now in
-        let place = head_length + regions * region_length (markets_of services) in
-        buffer.new ≡ sets buffer.old place (pick linked (link_record regions v) []) }
+    requires regions_in_bounds { linked ≡ true → (regions < length interval.now.flows) × (regions < length interval.now.factors) }
+    ensures { let place = head_length + regions * region_length (markets_of services) in
+        buffer.new ≡ sets buffer.old place (pick linked (link_record regions interval.now) []) }
 {
     if linked {
         let place = 12 + regions * region_length(services);
-        put_link(buffer, place, flows[regions], factors[regions]);
+        put_link(
+            buffer,
+            place,
+            interval.flows[regions],
+            interval.factors[regions],
+        );
     }
 }
 
-// 10, 11 and 23 in order. The slices and the buffer are told by their lengths.
-fn write_verdict(
-    book: Book,
-    prices: usize,
-    marked: usize,
-    flows: usize,
-    factors: usize,
-    room: usize,
-) -> Answer
-    ensures { verdict result ≡ write_lengths book prices marked flows factors room }
+// 10, 11 and 23 in order. The buffer is told by its length.
+fn write_verdict(book: Book, interval: &Interval, room: usize) -> Result<(), Refusal>
+    ensures { verdict result ≡ write_verdict book interval.now room }
 {
-    let lent = lent_verdict(book, prices, marked, flows, factors);
-    if let Answer::Refused(_) = lent {
-        return lent;
-    }
-    if room < interval_length(has_link(book), book.regions, book.services) {
-        return Answer::Refused(Refusal::Buffer);
-    }
-    Answer::Accepted
-}
-
-// Writes an interval as the first bytes of the buffer and hands the book back; the bytes after it stay.
-pub fn write_interval(
-    book: Book,
-    number: u32,
-    kind: u8,
-    prices: &[i32],
-    marked: &[u8],
-    flows: &[i32],
-    factors: &[u32],
-    buffer: &mut [u8],
-) -> Written
-    ensures { let v = interval_of number kind prices.now marked.now flows.now
-        factors.now in
-        outcome result buffer.new ≡ write_interval book v buffer.old }
-{
-    let answer = write_verdict(
+    lent_verdict(
         book,
-        prices.len(),
-        marked.len(),
-        flows.len(),
-        factors.len(),
-        buffer.len(),
-    );
-    if let Answer::Refused(refusal) = answer {
-        return Written {
+        interval.prices.len(),
+        interval.marked.len(),
+        interval.flows.len(),
+        interval.factors.len(),
+    )?;
+    if room < interval_length(has_link(book), book.regions, book.services) {
+        return Err(Refusal::Buffer);
+    }
+    Ok(())
+}
+
+// Writes an interval as the first bytes of the buffer and answers its length; the bytes after it stay, and the book is handed back.
+pub fn write_interval(book: Book, interval: &Interval, buffer: &mut [u8]) -> Reply<usize>
+    ensures { outcome result buffer.new ≡ write_interval book interval.now buffer.old }
+{
+    let answer = write_verdict(book, interval, buffer.len());
+    if let Err(refusal) = answer {
+        return Reply {
             book,
-            size: Size::Refused(refusal),
+            answer: Err(refusal),
         };
     }
     let linked = has_link(book);
     let regions = book.regions as usize;
-    put_head(buffer, book.regions, number, kind);
-    put_regions(
-        buffer,
-        regions,
-        book.services,
-        prices,
-        marked,
-        flows,
-        factors,
-    );
-    put_last(linked, buffer, regions, book.services, flows, factors);
-    Written {
+    put_head(buffer, book.regions, interval.number, interval.kind);
+    put_regions(buffer, regions, book.services, interval);
+    put_last(linked, buffer, regions, book.services, interval);
+    Reply {
         book,
-        size: Size::Length(interval_length(linked, book.regions, book.services)),
+        answer: Ok(interval_length(linked, book.regions, book.services)),
     }
 }

@@ -15,13 +15,11 @@ use Rattle.laws.proofs.Lists.{run-same, flat-div, flat-mod, tab-done}
 use Rattle.pricing.specs.Verdict.{Verdict}
 use Rattle.book.specs.declared.record.Book.{Book}
 use Rattle.book.specs.declared.record.Refusal.{Refusal}
-use Rattle.book.specs.declared.record.Answer.{Answer}
-use Rattle.book.specs.declared.record.Answer.TheVariants.{Accepted, Refused}
+use Rattle.std.specs.Prelude.{Result, Ok, Err}
 use Rattle.book.specs.Record.{markets_of, table_size, has_link, link_count, verdict, is_accepted}
 use Rattle.book.specs.Validity.{valid}
 use Rattle.book.proofs.Ways.{refusal_is}
 use Rattle.book.proofs.Validities.{valid-is}
-use Rattle.intervals.specs.declared.reading.Found.TheVariants.{At, Refused as Not-found}
 use Rattle.interval_records.specs.Layout.{Interval, head_length, region_length, link_length, interval_length, length_for, interval_of}
 use Rattle.intervals.specs.Lent.{slices_ok}
 use Rattle.intervals.specs.Working.{lent_verdict}
@@ -68,7 +66,7 @@ module _ (b : Book) (bytes : List ℕ) (at : ℕ) (v : Interval) where
   then-tests = ordered_verdict (has_link b) b.regions (markets_of b.services) bytes at
 
   abbrev refusal : Refusal → Outcome
-  refusal r = outcome (record { book = b; found = Not-found r }) v.prices v.marked v.flows v.factors
+  refusal r = outcome (record { book = b; answer = Err r }) v.prices v.marked v.flows v.factors
 
   -- refused by 10 or 11
   lent_same : is_accepted first-tests ≡ false → read_verdict b lent bytes at ≡ first-tests
@@ -78,16 +76,16 @@ module _ (b : Book) (bytes : List ℕ) (at : ℕ) (v : Interval) where
       (λ y. by-test (slices_ok b v) (λ l. absurd (true-is (sym (rw (y, l) at e)))) (λ l. rw (y, l) refl))
       (λ y. rw y refl)
 
-  module _ (a : Answer) (h : verdict a ≡ first-tests) where
-    pub read-lent : (r : Refusal) → a ≡ Refused r → refusal r ≡ read_interval b bytes at lent
+  module _ (a : Result Unit Refusal) (h : verdict a ≡ first-tests) where
+    pub read-lent : (r : Refusal) → a ≡ Err r → refusal r ≡ read_interval b bytes at lent
     unfolding read_interval
     read-lent r q =
-        let p : verdict (Refused r) ≡ first-tests = ap verdict (sym q) ∙ h in
+        let p : verdict {T = Unit} (Err r) ≡ first-tests = ap verdict (sym q) ∙ h in
         let z : is_accepted first-tests ≡ false = rw (← p) (refusal_is r) in
         rw (lent_same z, z, ← p) refl
 
     -- passed 10 and 11
-    module _ (q : a ≡ Accepted) where
+    module _ (q : a ≡ Ok tt) where
       passed : (valid b ≡ true) × (slices_ok b v ≡ true)
       unfolding lent_verdict
       passed =
@@ -111,17 +109,17 @@ module _ (b : Book) (bytes : List ℕ) (at : ℕ) (v : Interval) where
       unfolding read_verdict
       records-same = rw (passed.0, passed.1) refl
 
-      module _ (c : Answer) (g : verdict c ≡ then-tests) where
+      module _ (c : Result Unit Refusal) (g : verdict c ≡ then-tests) where
         -- refused by 40, 41 or 45
-        pub read-refused : (r : Refusal) → c ≡ Refused r → refusal r ≡ read_interval b bytes at lent
+        pub read-refused : (r : Refusal) → c ≡ Err r → refusal r ≡ read_interval b bytes at lent
         unfolding read_interval
         read-refused r w =
-            let p : verdict (Refused r) ≡ then-tests = ap verdict (sym w) ∙ g in
+            let p : verdict {T = Unit} (Err r) ≡ then-tests = ap verdict (sym w) ∙ g in
             let z : is_accepted then-tests ≡ false = rw (← p) (refusal_is r) in
             rw (records-same, z, ← p) refl
 
         -- accepted
-        module _ (w : c ≡ Accepted) where
+        module _ (w : c ≡ Ok tt) where
           pub records-accepted : is_accepted then-tests ≡ true
           records-accepted = rw (← g, w) refl
 
@@ -138,7 +136,7 @@ module _ (b : Book) (bytes : List ℕ) (at : ℕ) (v : Interval) where
               → local ≡ tabulate b.regions (factor_from M bytes (at + head_length) (λ r. r)) ++ drop b.regions v.factors
               → flows ≡ pick (has_link b) (set regional b.regions (link_flow b.regions M bytes (at + head_length))) regional
               → factors ≡ pick (has_link b) (set local b.regions (link_factor b.regions M bytes (at + head_length))) local
-              → outcome (record { book = b; found = At next number kind }) prices marked flows factors ≡ read_interval b bytes at lent
+              → outcome (record { book = b; answer = Ok (record { next = next; number = number; kind = kind }) }) prices marked flows factors ≡ read_interval b bytes at lent
           unfolding read_interval
           read-accepted next number kind prices marked regional flows local factors en em ek ep ea er el ef ex =
               let a = tab-done _ b.regions b.regions v.marked marked ea refl (omega (arith, lengths.1)) in

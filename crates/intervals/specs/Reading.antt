@@ -1,5 +1,5 @@
 -- Reading an interval from its records. Assumes nothing.
-use Rattle.std.specs.Prelude.{Bool, not, List, [], ◌∷◌, ◌++◌, ℕ, ◌+◌, ◌*◌, ◌/◌, ◌%◌, ℤ}
+use Rattle.std.specs.Prelude.{Result, Ok, Err, Bool, not, List, [], ◌∷◌, ◌++◌, ℕ, ◌+◌, ◌*◌, ◌/◌, ◌%◌, ℤ}
 use Rattle.std.specs.Int.{w32}
 use Rattle.std.proofs.Common.{to_z}
 use Rattle.laws.specs.Base.{pick}
@@ -7,11 +7,11 @@ use Rattle.laws.specs.Lists.{tabulate}
 use Rattle.laws.specs.Bytes.{number_at}
 use Rattle.pricing.specs.Verdict.{Verdict, accepted, refused}
 use Rattle.book.specs.declared.record.Book.{Book}
-use Rattle.book.specs.Record.{markets_of, has_link, verdict_of, is_accepted}
+use Rattle.book.specs.Record.{markets_of, has_link, verdict, is_accepted}
 use Rattle.book.specs.Validity.{valid}
 use Rattle.intervals.specs.declared.reading.Found.{Found}
-use Rattle.intervals.specs.declared.reading.Found.TheVariants.{At, Refused}
-use Rattle.intervals.specs.declared.reading.Taken.{Taken}
+use Rattle.book.specs.declared.record.Reply.{Reply}
+use Rattle.book.specs.declared.record.Refusal.{Refusal}
 use Rattle.interval_records.specs.Layout.{Interval, interval_of, head_length, length_for}
 use Rattle.intervals.specs.Lent.{slices_ok}
 use Rattle.interval_records.specs.Record.{record_place}
@@ -70,29 +70,25 @@ pub record Outcome : Type 0 where
   pub book : Book
   pub interval : Interval
 
--- the paper's number and values for each case
-abbrev pub verdict : Found → Verdict
-verdict (At next number kind) = accepted
-verdict (Refused r) = verdict_of r
+-- the paper's values for each case
+abbrev pub next_in : Result Found Refusal → ℕ
+next_in (Ok f) = f.next
+next_in (Err r) = 0
 
-abbrev pub next_in : Found → ℕ
-next_in (At next number kind) = next
-next_in (Refused r) = 0
+abbrev pub number_in : Result Found Refusal → ℕ
+number_in (Ok f) = f.number
+number_in (Err r) = 0
 
-abbrev pub number_in : Found → ℕ
-number_in (At next number kind) = number
-number_in (Refused r) = 0
+abbrev pub kind_in : Result Found Refusal → ℕ
+kind_in (Ok f) = f.kind
+kind_in (Err r) = 0
 
-abbrev pub kind_in : Found → ℕ
-kind_in (At next number kind) = kind
-kind_in (Refused r) = 0
-
-abbrev pub outcome : Taken → List ℤ → List ℕ → List ℤ → List ℕ → Outcome
+abbrev pub outcome : Reply Found → List ℤ → List ℕ → List ℤ → List ℕ → Outcome
 outcome r prices marked flows factors = record {
-  verdict = verdict r.found;
-  next = next_in r.found;
+  verdict = verdict r.answer;
+  next = next_in r.answer;
   book = r.book;
-  interval = interval_of (number_in r.found) (kind_in r.found) prices marked flows factors;
+  interval = interval_of (number_in r.answer) (kind_in r.answer) prices marked flows factors;
 }
 
 -- accepted: the interval of the records and "the place after it"; refused: what was lent, and zeros

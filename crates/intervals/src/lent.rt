@@ -3,7 +3,7 @@ ghost use Rattle.std.specs.Prelude.{◌≡◌};
 ghost use Rattle.book.specs.Record.{verdict};
 ghost use Rattle.intervals.specs.Working.{lent_verdict};
 
-use book::record::{Answer, Book, Refusal, link_count};
+use book::record::{Book, Refusal, link_count};
 use book::validity::valid;
 
 // 10, then 11. The slices are told by their lengths.
@@ -13,17 +13,17 @@ pub fn lent_verdict(
     marked: usize,
     flows: usize,
     factors: usize,
-) -> Answer
+) -> Result<(), Refusal>
     ensures { verdict result ≡ lent_verdict book prices marked flows factors }
 {
     if !valid(book) {
-        return Answer::Refused(Refusal::Invalid);
+        return Err(Refusal::Invalid);
     }
     let regions = book.regions as usize;
     let links = link_count(book);
     let size = regions * (book.services as usize + 1);
     if !((prices == size) & (marked == regions) & (flows == links) & (factors == links)) {
-        return Answer::Refused(Refusal::Length);
+        return Err(Refusal::Length);
     }
-    Answer::Accepted
+    Ok(())
 }

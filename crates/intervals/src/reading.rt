@@ -10,22 +10,17 @@ ghost use Rattle.interval_records.specs.Layout.{region_length, link_length, inte
 ghost use Rattle.intervals.specs.Reading.{price_from, mark_from, flow_from, factor_from, link_flow, link_factor, outcome, read_interval};
 
 use crate::lent::lent_verdict;
-use book::record::{Answer, Book, Refusal, has_link};
+use book::record::{Book, Reply, has_link};
 use codec::{get_u8, get_u32, get_word, get_words};
 use interval_records::in_order::ordered_verdict;
 use interval_records::layout::interval_length;
 
-// The place after the interval with its number and day kind, or the first refusal.
+// The place after an interval that was read, with its number and day kind.
 #[derive(Clone, Copy)]
-pub enum Found {
-    At { next: usize, number: u32, kind: u8 },
-    Refused(Refusal),
-}
-
-#[derive(Clone, Copy)]
-pub struct Taken {
-    pub book: Book,
-    pub found: Found,
+pub struct Found {
+    pub next: usize,
+    pub number: u32,
+    pub kind: u8,
 }
 
 // The numbers of a region's record at a place.
@@ -76,8 +71,7 @@ fn read_regions(
         factors.new ≡ said ++ drop regions factors.old }
 {
     let size = 16 + 4 * markets;
-    let mut r: usize = 0;
-    while r < regions {
+    for r in 0..regions {
         read_region(
             bytes,
             first + r * size,
@@ -88,7 +82,6 @@ fn read_regions(
             flows,
             factors,
         );
-        r += 1;
     }
 }
 
@@ -126,24 +119,24 @@ pub fn read_interval(
     marked: &mut [u8],
     flows: &mut [i32],
     factors: &mut [u32],
-) -> Taken
+) -> Reply<Found>
     ensures { let lent = interval_of 0 0 prices.old marked.old flows.old factors.old in
         outcome result prices.new marked.new flows.new factors.new
         ≡ read_interval book bytes.now at lent }
 {
     let lent = lent_verdict(book, prices.len(), marked.len(), flows.len(), factors.len());
-    if let Answer::Refused(refusal) = lent {
-        return Taken {
+    if let Err(refusal) = lent {
+        return Reply {
             book,
-            found: Found::Refused(refusal),
+            answer: Err(refusal),
         };
     }
     let linked = has_link(book);
     let answer = ordered_verdict(linked, book.regions, book.services, bytes, at);
-    if let Answer::Refused(refusal) = answer {
-        return Taken {
+    if let Err(refusal) = answer {
+        return Reply {
             book,
-            found: Found::Refused(refusal),
+            answer: Err(refusal),
         };
     }
     let regions = book.regions as usize;
@@ -159,10 +152,13 @@ pub fn read_interval(
         factors,
     );
     read_link(linked, regions, markets, bytes, at + 12, flows, factors);
-    let found = Found::At {
+    let found = Found {
         next: at + interval_length(linked, book.regions, book.services),
         number: get_u32(bytes, at + 6),
         kind: get_u8(bytes, at + 10),
     };
-    Taken { book, found }
+    Reply {
+        book,
+        answer: Ok(found),
+    }
 }

@@ -1,57 +1,9 @@
 -- `interval_records::in_order::next_verdict` meets its contract, by a law for each way out. Assumes nothing.
-use mathlib.Core.Path.{◌≡◌, sym, ap, ◌∙◌}
-use mathlib.Core.Bool.{true}
-use Prim.Native.Nat.{ℕ, ◌+◌, ◌*◌, ◌≤◌}
-use native.Mathlib.Omega.{arith}
-use lib.ListN.{length}
-use Rattle.pricing.specs.Verdict.{Verdict}
-use Rattle.book.specs.Record.{markets_of, verdict, is_accepted}
-use Rattle.interval_records.specs.Layout.{region_length}
-use Rattle.interval_records.specs.Record.{due_verdict, record_place, region_at}
-use Rattle.interval_records.proofs.Wholes.{accepted-due}
-use Rattle.book.proofs.Ways.{is-accepted, is-refused}
-use Rattle.interval_records.proofs.Verdicts.{next-due, next-45, next-0}
+use Rattle.interval_records.proofs.Verdicts.{next-45, next-0}
 use Rattle.interval_records.proofs.in_order.next_verdict.Goals as goal
 
-pub returns-in-Refused : goal.returns-in-Refused
-returns-in-Refused c =
-    let markets : ℕ = markets_of c.args.services in
-    let place : ℕ = record_place (markets) c.args.first c.args.k in
-    let at_place : c.args.first + c.args.k * c.region_length.result ≡ place = (let a = c.args in ap (λ (n : ℕ). a.first + a.k * n) c.region_length.ensures.0) in
-    let twofold : Verdict = due_verdict 17 (markets) c.args.bytes.now (place) in
-    let due : verdict c.due_verdict-answer.result ≡ twofold = c.due_verdict-answer.ensures ∙ ap (due_verdict 17 (markets) c.args.bytes.now) (at_place) in
-    let d = due in
-    d ∙ next-due _ _ _ _ (is-refused _ _ d _ c.in-Refused.is).1
-
-pub get_u8-requires : goal.get_u8-requires
-get_u8-requires c =
-    let markets : ℕ = markets_of c.args.services in
-    let place : ℕ = record_place (markets) c.args.first c.args.k in
-    let at_place : c.args.first + c.args.k * c.region_length.result ≡ place = (let a = c.args in ap (λ (n : ℕ). a.first + a.k * n) c.region_length.ensures.0) in
-    let twofold : Verdict = due_verdict 17 (markets) c.args.bytes.now (place) in
-    let due : verdict c.due_verdict-answer.result ≡ twofold = c.due_verdict-answer.ensures ∙ ap (due_verdict 17 (markets) c.args.bytes.now) (at_place) in
-    let passed : is_accepted (twofold) ≡ true = ap is_accepted (is-accepted _ _ (due) c.in_default.is) in
-    let room : c.args.first + c.args.k * c.region_length.result + region_length (markets) ≤ length c.args.bytes.now = rw (at_place) (accepted-due 17 _ (omega arith) _ _ (passed)).room in
-    let r = room in omega arith
-
-pub returns-then-get_u8-k : goal.returns-then-get_u8-k
-returns-then-get_u8-k c =
-    let markets : ℕ = markets_of c.args.services in
-    let place : ℕ = record_place (markets) c.args.first c.args.k in
-    let at_place : c.args.first + c.args.k * c.region_length.result ≡ place = (let a = c.args in ap (λ (n : ℕ). a.first + a.k * n) c.region_length.ensures.0) in
-    let twofold : Verdict = due_verdict 17 (markets) c.args.bytes.now (place) in
-    let due : verdict c.due_verdict-answer.result ≡ twofold = c.due_verdict-answer.ensures ∙ ap (due_verdict 17 (markets) c.args.bytes.now) (at_place) in
-    let passed : is_accepted (twofold) ≡ true = ap is_accepted (is-accepted _ _ (due) c.in_default.is) in
-    let named : c.get_u8.result ≡ region_at (markets) c.args.bytes.now c.args.first c.args.k = rw (at_place) at c.get_u8.ensures in
-    next-45 _ _ _ _ (passed) (λ e. c.if-get_u8-k.true (named ∙ e))
+pub returns-then-region-k : goal.returns-then-region-k
+returns-then-region-k c = next-45 c.args.region c.args.k c.if-region-k.true
 
 pub returns : goal.returns
-returns c =
-    let markets : ℕ = markets_of c.args.services in
-    let place : ℕ = record_place (markets) c.args.first c.args.k in
-    let at_place : c.args.first + c.args.k * c.region_length.result ≡ place = (let a = c.args in ap (λ (n : ℕ). a.first + a.k * n) c.region_length.ensures.0) in
-    let twofold : Verdict = due_verdict 17 (markets) c.args.bytes.now (place) in
-    let due : verdict c.due_verdict-answer.result ≡ twofold = c.due_verdict-answer.ensures ∙ ap (due_verdict 17 (markets) c.args.bytes.now) (at_place) in
-    let passed : is_accepted (twofold) ≡ true = ap is_accepted (is-accepted _ _ (due) c.in_default.is) in
-    let named : c.get_u8.result ≡ region_at (markets) c.args.bytes.now c.args.first c.args.k = rw (at_place) at c.get_u8.ensures in
-    next-0 _ _ _ _ (passed) (sym (named) ∙ c.if-get_u8-k.false)
+returns c = next-0 c.args.region c.args.k c.if-region-k.false

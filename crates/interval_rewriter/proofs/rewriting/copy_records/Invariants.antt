@@ -13,6 +13,3 @@ invariant-loop-r l =
     let f = record_bytes l.regions l.markets l.bytes (l.at + head_length) in
     (l.r ≤ l.regions) × (length l.buffer ≡ length l.initial.buffer)
     × (sets l.buffer (12 + l.r * region_length l.markets) (joined (l.regions - l.r) l.r f) ≡ sets l.initial.buffer head_length (joined l.regions 0 f))
-
-abbrev pub decreases-loop-r : goal.decreases-loop-r
-decreases-loop-r l = l.regions - l.r

@@ -44,10 +44,10 @@ module _ (b : Book) (bytes : List ℕ) (at start n : ℕ) (linked : Bool) where
         room = all_room (has_link b) b.regions (markets_of b.services) bytes at g;
       }
 
-pub returns-in-Refused : goal.returns-in-Refused
-returns-in-Refused c =
+pub returns-in-Err : goal.returns-in-Err
+returns-in-Err c =
     let a = c.args in
-    rewritten-refused a.book a.bytes.now a.at a.buffer.now _ c.rewrite_verdict-answer.ensures _ c.in-Refused.is
+    rewritten-refused a.book a.bytes.now a.at a.buffer.now _ c.rewrite_verdict-answer.ensures _ c.in-Err.is
 
 pub copy-requires : goal.copy-requires
 copy-requires c =

@@ -21,15 +21,17 @@ loop-r-preserved c =
     let size = c.region_length-size.result in
     let a = c.args in
     let M = markets_of a.services in
-    let v = interval_of 0 0 a.prices.now a.marked.now a.flows.now a.factors.now in
-    let z = get_or a.flows.now l.r (pos 0) in
-    let flow = to_z w32 (of_z w32 z) in
+    let v = a.interval.now in
+    let i = c.interval.inside in
+    let z = get_or i.flows.now l.r (pos 0) in
     let f : SFits w32 z = search rules in
     let e : size ≡ region_length M = c.region_length-size.ensures.0 in
     let n = c.put_region.new.buffer in
     let at = 12 + l.r * size in
     let o = l.buffer in
-    let w : n ≡ sets o at (region_record M v l.r) = record-put M l.r v flow o n at (to_z-of_z f) c.put_region.ensures in
+    let said = interval_of i.number i.kind i.prices.now i.marked.now i.flows.now i.factors.now in
+    let w : n ≡ sets o at (region_record M v l.r) =
+    rw (← c.interval.view_is) (record-put M l.r said (to_z w32 (of_z w32 z)) o n at (to_z-of_z f) c.put_region.ensures) in
     let g : length (region_record M v l.r) ≡ size = region-length M v l.r ∙ sym e in (
       omega arith,
       c.put_region.auto.buffer ∙ l.invariant.1,

@@ -7,8 +7,8 @@ use native.Mathlib.Omega.{arith}
 use lib.ListN.{length}
 use Rattle.laws.specs.Bytes.{number_at}
 use Rattle.book.specs.declared.record.Book.{Book}
-use Rattle.book.specs.declared.record.Answer.{Answer}
-use Rattle.book.specs.declared.record.Answer.TheVariants.{Accepted}
+use Rattle.std.specs.Prelude.{Result, Ok}
+use Rattle.book.specs.declared.record.Refusal.{Refusal}
 use Rattle.book.specs.Record.{markets_of, table_size, has_link, link_count, verdict}
 use Rattle.interval_records.specs.Layout.{Interval, head_length, region_length, link_length, length_for, interval_of}
 use Rattle.interval_records.specs.InOrder.{ordered_verdict}
@@ -32,14 +32,14 @@ record Known (b : Book) (bytes : List ℕ) (at : ℕ) (v : Interval) : Type 0 wh
   flows : length v.flows ≡ link_count b
   factors : length v.factors ≡ link_count b
 
-module _ (b : Book) (bytes : List ℕ) (at : ℕ) (linked : Bool) (l : linked ≡ has_link b) (o : Answer)
+module _ (b : Book) (bytes : List ℕ) (at : ℕ) (linked : Bool) (l : linked ≡ has_link b) (o : Result Unit Refusal)
     (g : verdict o ≡ ordered_verdict linked b.regions (markets_of b.services) bytes at) where
   -- the verdict on the records, whether the book has the additional link
   ordered : verdict o ≡ ordered_verdict (has_link b) b.regions (markets_of b.services) bytes at
   ordered = rw (← l) g
 
-  known : (v : Interval) (a : Answer) → verdict a ≡ lent_verdict b (length v.prices) (length v.marked) (length v.flows) (length v.factors) → a ≡ Accepted
-      → o ≡ Accepted → Known b bytes at v
+  known : (v : Interval) (a : Result Unit Refusal) → verdict a ≡ lent_verdict b (length v.prices) (length v.marked) (length v.flows) (length v.factors) → a ≡ Ok tt
+      → o ≡ Ok tt → Known b bytes at v
   known v a h q w =
       let e = records-accepted b bytes at v a h q o ordered w in
       let R = b.regions in
@@ -57,18 +57,18 @@ module _ (b : Book) (bytes : List ℕ) (at : ℕ) (linked : Bool) (l : linked �
         factors = s.3;
       }
 
-pub returns-in-Refused : goal.returns-in-Refused
-returns-in-Refused c =
+pub returns-in-Err : goal.returns-in-Err
+returns-in-Err c =
     let a = c.args in
     let v = interval_of 0 0 a.prices.now a.marked.now a.flows.now a.factors.now in
-    read-lent a.book a.bytes.now a.at v _ c.lent_verdict-lent.ensures _ c.in-Refused.is
+    read-lent a.book a.bytes.now a.at v _ c.lent_verdict-lent.ensures _ c.in-Err.is
 
-pub returns-in-Refused-answer : goal.returns-in-Refused-answer
-returns-in-Refused-answer c =
+pub returns-in-Err-answer : goal.returns-in-Err-answer
+returns-in-Err-answer c =
     let a = c.args in
     let v = interval_of 0 0 a.prices.now a.marked.now a.flows.now a.factors.now in
     let o = ordered a.book a.bytes.now a.at _ c.has_link-linked.ensures _ c.ordered_verdict-answer.ensures in
-    read-refused a.book a.bytes.now a.at v _ c.lent_verdict-lent.ensures c.in_default.is _ o _ c.in-Refused-answer.is
+    read-refused a.book a.bytes.now a.at v _ c.lent_verdict-lent.ensures c.in_default.is _ o _ c.in-Err-answer.is
 
 pub overflow_add-at : goal.overflow_add-at
 overflow_add-at c =

@@ -2,7 +2,7 @@
 -- region r's from record r. Assumes nothing.
 use mathlib.Core.Path.{◌≡◌}
 use mathlib.Core.List.{◌++◌}
-use Prim.Native.Nat.{◌≤◌, ◌-◌, ◌*◌}
+use Prim.Native.Nat.{◌≤◌, ◌*◌}
 use lib.ListN.{length, drop}
 use lib.Seq.{sets}
 use Rattle.laws.specs.Lists.{run, tabulate}
@@ -20,6 +20,3 @@ invariant-loop-r l =
     × (l.marked ≡ tabulate l.r (mark_from l.markets l.bytes l.first (λ k. k)) ++ drop l.r l.initial.marked)
     × (l.flows ≡ tabulate l.r (flow_from l.markets l.bytes l.first (λ k. k)) ++ drop l.r l.initial.flows)
     × (l.factors ≡ tabulate l.r (factor_from l.markets l.bytes l.first (λ k. k)) ++ drop l.r l.initial.factors)
-
-abbrev pub decreases-loop-r : goal.decreases-loop-r
-decreases-loop-r l = l.regions - l.r
