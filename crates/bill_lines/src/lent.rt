@@ -3,7 +3,7 @@ ghost use Rattle.std.specs.Prelude.{◌≡◌};
 ghost use Rattle.book.specs.Record.{verdict};
 ghost use Rattle.bill_lines.specs.Lent.{lent_verdict};
 
-use book::record::{Answer, Book, Refusal, ring_size};
+use book::record::{Book, Refusal, ring_size};
 use book::validity::valid;
 
 // The lengths of the slices that a bill is lent: the book's ring and the second one, the schedule, and the four of its lines.
@@ -19,11 +19,11 @@ pub struct Lengths {
 }
 
 // 10, 11, then 21.
-pub fn lent_verdict(book: Book, lengths: Lengths, region: u32) -> Answer
+pub fn lent_verdict(book: Book, lengths: Lengths, region: u32) -> Result<(), Refusal>
     ensures { verdict result ≡ lent_verdict book lengths region }
 {
     if !valid(book) {
-        return Answer::Refused(Refusal::Invalid);
+        return Err(Refusal::Invalid);
     }
     let ring = ring_size(book.regions, book.services, book.window);
     let size = book.regions as usize * (book.services as usize + 1);
@@ -35,10 +35,10 @@ pub fn lent_verdict(book: Book, lengths: Lengths, region: u32) -> Answer
         & (lengths.prices == lengths.numbers)
         & (lengths.amounts == lengths.numbers))
     {
-        return Answer::Refused(Refusal::Length);
+        return Err(Refusal::Length);
     }
     if !(region < book.regions as u32) {
-        return Answer::Refused(Refusal::Market);
+        return Err(Refusal::Market);
     }
-    Answer::Accepted
+    Ok(())
 }

@@ -1,87 +1,72 @@
 // The lines of a bill: whether one is right, how many in front are, and the first with too many kilowatt-hours.
-ghost use Rattle.std.specs.Prelude.{◌≡◌, ◌≤◌, length};
-ghost use Rattle.bill_lines.specs.Lines.{lines_of, shown_as, line_right, first_heavy};
-ghost use Rattle.bill_lines.specs.Working.{line_told, leads_to};
+ghost use Rattle.std.specs.Prelude.{◌≡◌, ◌≤◌};
+ghost use Rattle.bill_lines.specs.Lines.{shown_as, line_right};
+ghost use Rattle.bill_lines.specs.Working.{leads_to, heavy_line};
 
 use pricing::rounding::rounded;
+use std::marker::Model;
+
+// The lines of a bill, in four slices of one length.
+#[derive(Drop)]
+pub struct Lines<'a> {
+    pub numbers: &'a [u32],
+    pub energy: &'a [u32],
+    pub prices: &'a [i32],
+    pub amounts: &'a [i64],
+}
+
+impl<'a> Model for Lines<'a> {
+    ghost use Rattle.bill_lines.specs.Lines.{Lines as Said, lines_of};
+    ghost use Rattle.bill_lines.specs.Working.{OneLength};
+
+    ghost Value = { Said };
+
+    ghost view = { λ l. lines_of l.numbers.now l.energy.now l.prices.now l.amounts.now };
+
+    ghost invariant = { λ l. OneLength (lines_of l.numbers.now l.energy.now l.prices.now l.amounts.now) };
+}
 
 // Whether a line says of an interval what the rules say. The range leaves room for the product.
-pub(crate) fn line_right(
-    said: u32,
-    used: u32,
-    asked: i32,
-    charged: i64,
-    number: u32,
-    price: i32,
-) -> bool
+fn line_right(said: u32, used: u32, asked: i32, charged: i64, number: u32, price: i32) -> bool
     requires { used ≤ 1000000000 }
     ensures { result ≡ line_right said used asked charged (shown_as number price) }
 {
     let due = rounded(used as i64 * price as i64, 1000);
-    (said == number) & ((asked <= price) & (price <= asked)) & ((charged <= due) & (due <= charged))
-}
-
-// Whether line `i` is there, in range, and right.
-pub(crate) fn line_told(
-    numbers: &[u32],
-    energy: &[u32],
-    prices: &[i32],
-    amounts: &[i64],
-    i: usize,
-    number: u32,
-    price: i32,
-) -> bool
-    requires { (length energy.now ≡ length numbers.now) × (length prices.now ≡ length numbers.now)
-        × (length amounts.now ≡ length numbers.now) }
-    ensures { let lines = lines_of numbers.now energy.now prices.now amounts.now in
-        result ≡ line_told lines i (shown_as number price) }
-{
-    if !(i < numbers.len()) {
-        return false;
-    }
-    let used = energy[i];
-    // Out of range: 46 is the bill's answer, and the product might have no room.
-    if !(used <= 1000000000) {
-        return false;
-    }
-    line_right(numbers[i], used, prices[i], amounts[i], number, price)
+    (said == number) & (asked == price) & (charged == due)
 }
 
 // How many of the first lines are right after one more interval, which is number `count`; `right` of those before it were.
-pub fn leads_to(
-    numbers: &[u32],
-    energy: &[u32],
-    prices: &[i32],
-    amounts: &[i64],
-    right: usize,
-    count: usize,
-    number: u32,
-    price: i32,
-) -> usize
-    requires { (length energy.now ≡ length numbers.now) × (length prices.now ≡ length numbers.now)
-        × (length amounts.now ≡ length numbers.now) }
-    ensures { let lines = lines_of numbers.now energy.now prices.now amounts.now in
-        result ≡ leads_to lines right count (shown_as number price) }
+pub fn leads_to(lines: &Lines, right: usize, count: usize, number: u32, price: i32) -> usize
+    ensures { result ≡ leads_to lines.now right count (shown_as number price) }
 {
     if right != count {
         return right;
     }
-    if line_told(numbers, energy, prices, amounts, count, number, price) {
+    if !(count < lines.numbers.len()) {
+        return right;
+    }
+    let used = lines.energy[count];
+    // Out of range: 46 is the bill's answer, and the product might have no room.
+    if !(used <= 1000000000) {
+        return right;
+    }
+    let said = lines.numbers[count];
+    if line_right(
+        said,
+        used,
+        lines.prices[count],
+        lines.amounts[count],
+        number,
+        price,
+    ) {
         return right + 1;
     }
     right
 }
 
-// The first line with too many kilowatt-hours, or how many lines there are.
-pub fn first_heavy(energy: &[u32]) -> usize
-    ensures { result ≡ first_heavy energy.now }
+// The first line with too many kilowatt-hours, if there is one.
+pub fn first_heavy(energy: &[u32]) -> Option<usize>
+    ensures { result ≡ heavy_line energy.now }
 {
-    let mut i: usize = 0;
-    while i < energy.len() {
-        if !(energy[i] <= 1000000000) {
-            return i;
-        }
-        i += 1;
-    }
-    i
+    energy.iter().position(|used| *used > 1000000000)
 }

@@ -13,15 +13,14 @@ use Rattle.laws.specs.Lists.{first_below}
 use Rattle.pricing.specs.Verdict.{accepted}
 use Rattle.book.specs.declared.record.Book.{Book}
 use Rattle.book.specs.declared.record.Refusal.{Refusal}
-use Rattle.book.specs.declared.record.Answer.TheVariants.{Accepted, Refused}
-use Rattle.book.specs.Record.{is_accepted}
+use Rattle.std.specs.Prelude.{Result, Ok, Err}
+use Rattle.book.specs.Record.{verdict, is_accepted}
 use Rattle.book.proofs.Ways.{refusal_is}
 use Rattle.bill_lines.specs.Lines.{Shown, shown_as}
 use Rattle.bill_lines.specs.Working.{leading, leads_to}
 use Rattle.bill_lines.proofs.Leads.{length_more, leading-more}
-use Rattle.interval_entry.specs.declared.Stepped.{Stepped}
+use Rattle.book.specs.declared.record.Reply.{Reply}
 use Rattle.interval_entry.specs.declared.Step.{Step}
-use Rattle.interval_entry.specs.declared.Step.TheVariants.{Gone, Stopped}
 use Rattle.interval_entry.specs.Taking as Taking
 use Rattle.interval_entry.proofs.Steps.{Taken, taken_is, taken_not}
 use Rattle.billing.specs.Billing.{Bill, State, Day, ends, taken_here, after, runs, day_of}
@@ -103,18 +102,18 @@ module _ {bill : Bill} {b₀ : Book} {ring₀ : List ℤ} {b : Book} {ring : Lis
   here = state_of b ring at h.shown
 
   -- the records' end
-  pub done : length bill.records ≤ at → told_in (record { answer = Accepted; count = count; right = right }) ring ≡ told bill.lines (day_of b₀ ring₀ bill)
+  pub done : length bill.records ≤ at → told_in (record { answer = Ok tt; count = count; right = right }) ring ≡ told bill.lines (day_of b₀ ring₀ bill)
   done l =
       let d : ends accepted here ≡ day_of b₀ ring₀ bill = sym (runs-end bill here h.fuel l) ∙ h.all in
       (λ i. record { verdict = accepted; count = h.counted i; right = h.leads i; ring = ring }) ∙ ap (told bill.lines) d
 
   -- an interval: what it came to
-  module _ (l : at < length bill.records) (r : Stepped) (ring' : List ℤ) (e : Taking.outcome r ring' ≡ taken_here bill here) where
+  module _ (l : at < length bill.records) (r : Reply Step) (ring' : List ℤ) (e : Taking.outcome r ring' ≡ taken_here bill here) where
     -- refused
-    pub stop : (refusal : Refusal) → r.step ≡ Stopped refusal
-        → told_in (record { answer = Refused refusal; count = count; right = right }) ring' ≡ told bill.lines (day_of b₀ ring₀ bill)
+    pub stop : (refusal : Refusal) → r.answer ≡ Err refusal
+        → told_in (record { answer = Err refusal; count = count; right = right }) ring' ≡ told bill.lines (day_of b₀ ring₀ bill)
     stop refusal q =
-        let v : (taken_here bill here).verdict ≡ Taking.verdict (Stopped refusal) = ap (λ (o : Taking.Outcome). o.verdict) (sym e) ∙ ap Taking.verdict q in
+        let v : (taken_here bill here).verdict ≡ verdict {T = Step} (Err refusal) = ap (λ (o : Taking.Outcome). o.verdict) (sym e) ∙ ap verdict q in
         let z : is_accepted (taken_here bill here).verdict ≡ false = rw v (refusal_is refusal) in
         let k : ring' ≡ ring = ap (λ (o : Taking.Outcome). o.ring) e ∙ (here-not bill here z).1 in
         let d = stopped h.fuel h.enough z h.all in
@@ -126,45 +125,48 @@ module _ {bill : Bill} {b₀ : Book} {ring₀ : List ℤ} {b : Book} {ring : Lis
         stopped (suc n) k z a = sym (runs-refused bill here n l z) ∙ a
 
     -- accepted
-    module _ (next number : ℕ) (price : ℤ) (q : r.step ≡ Gone next number price) where
+    module _ (step : Step) (q : r.answer ≡ Ok step) where
+      abbrev shown : Shown
+      shown = shown_as step.number step.price
+
       gone : is_accepted (taken_here bill here).verdict ≡ true
       gone =
-          let v : (taken_here bill here).verdict ≡ Taking.verdict (Gone next number price) = ap (λ (o : Taking.Outcome). o.verdict) (sym e) ∙ ap Taking.verdict q in
+          let v : (taken_here bill here).verdict ≡ verdict (Ok step) = ap (λ (o : Taking.Outcome). o.verdict) (sym e) ∙ ap verdict q in
           rw v refl
 
       taken : Taken b bill.records at (taken_here bill here)
       taken = here-is bill here gone
 
-      is-next : (taken_here bill here).next ≡ next
+      is-next : (taken_here bill here).next ≡ step.next
       is-next = ap (λ (o : Taking.Outcome). o.next) (sym e) ∙ ap Taking.next_in q
 
       -- the place after it is further on, and within the records
-      pub further : (at < next) × (next ≤ length bill.records)
+      pub further : (at < step.next) × (step.next ≤ length bill.records)
       further = (omega (arith, is-next, taken.next), omega (arith, is-next, taken.room))
 
-      shows : after here (taken_here bill here) ≡ state_of r.book ring' next (h.shown ++ (shown_as number price ∷ []))
-      shows = ap (after here) (sym e) ∙ ap (λ (x : Step). after here (Taking.outcome (record { book = r.book; step = x }) ring')) q
+      shows : after here (taken_here bill here) ≡ state_of r.book ring' step.next (h.shown ++ (shown ∷ []))
+      shows = ap (after here) (sym e) ∙ ap (λ (x : Result Step Refusal). after here (Taking.outcome (record { book = r.book; answer = x }) ring')) q
 
-      pub again : (right' : ℕ) → right' ≡ leads_to bill.lines right count (shown_as number price)
-          → Held bill b₀ ring₀ r.book ring' next (count + 1) right'
+      pub again : (right' : ℕ) → right' ≡ leads_to bill.lines right count shown
+          → Held bill b₀ ring₀ r.book ring' step.next (count + 1) right'
       again right' f = go h.fuel h.enough h.all
         where
           same : (x : Taking.Outcome → ℕ) → x (Taking.outcome r ring') ≡ x (taken_here bill here)
           same x = ap x e
 
-          go : (n : ℕ) → length bill.records ≤ at + n → runs n bill here ≡ day_of b₀ ring₀ bill → Held bill b₀ ring₀ r.book ring' next (count + 1) right'
+          go : (n : ℕ) → length bill.records ≤ at + n → runs n bill here ≡ day_of b₀ ring₀ bill → Held bill b₀ ring₀ r.book ring' step.next (count + 1) right'
           go zero k a = absurd (omega arith)
           go (suc n) k a = record {
-            shown = h.shown ++ (shown_as number price ∷ []);
+            shown = h.shown ++ (shown ∷ []);
             fuel = n;
             enough = omega (arith, further);
             all = ap (runs n bill) (sym shows) ∙ sym (runs-next bill here n l gone) ∙ a;
             within = further.1;
-            counted = ap (λ (c : ℕ). c + 1) h.counted ∙ sym (length_more bill.lines h.shown (shown_as number price));
+            counted = ap (λ (c : ℕ). c + 1) h.counted ∙ sym (length_more bill.lines h.shown shown);
             leads =
                 f
-                ∙ (λ i. leads_to bill.lines (h.leads i) (h.counted i) (shown_as number price))
-                ∙ sym (leading-more bill.lines h.shown (shown_as number price));
+                ∙ (λ i. leads_to bill.lines (h.leads i) (h.counted i) shown)
+                ∙ sym (leading-more bill.lines h.shown shown);
             few = omega (arith, h.few, further);
             regions = same (λ o. o.book.regions) ∙ taken.regions ∙ h.regions;
             services = same (λ o. o.book.services) ∙ taken.services ∙ h.services;

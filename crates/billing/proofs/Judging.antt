@@ -12,8 +12,7 @@ use Rattle.laws.specs.Base.{pick}
 use Rattle.laws.proofs.Tests.{by-test, and_left, and_right}
 use Rattle.pricing.specs.Verdict.{accepted, refused_at}
 use Rattle.book.specs.declared.record.Book.{Book}
-use Rattle.book.specs.declared.record.Answer.{Answer}
-use Rattle.book.specs.declared.record.Answer.TheVariants.{Accepted, Refused}
+use Rattle.std.specs.Prelude.{Result, Ok, Err, Option}
 use Rattle.book.specs.declared.record.Refusal.{Refusal}
 use Rattle.book.specs.Record.{verdict, is_accepted}
 use Rattle.book.proofs.Ways.{is-accepted, is-refused}
@@ -23,8 +22,6 @@ use Rattle.bill_lines.specs.Working.{leading}
 use Rattle.bill_lines.proofs.Leads.{none-wrong, one-wrong}
 use Rattle.bill_lines.proofs.Firsts.{all-in-range}
 use Rattle.bill_lines.proofs.Lents.{LentOk, lent_is}
-use Rattle.billing.specs.declared.Judgement.{Judgement}
-use Rattle.billing.specs.declared.Judgement.TheVariants.{Refused as Not-judged}
 use Rattle.billing.specs.declared.Played.{Played}
 use Rattle.billing.specs.Billing.{Bill, Day, Outcome, judged, day_of, refusal, lengths_of, billed, outcome}
 use Rattle.billing.specs.Working.{Said, Told, told, told_in, said, said_by}
@@ -87,22 +84,22 @@ unfolding billed
 billed-is b ring work bill = refl
 
 -- by the answers of its parts
-module _ (b : Book) (ring work : List ℤ) (bill : Bill) (a : Answer) (h : verdict a ≡ lent_verdict b (lengths_of ring work bill) bill.region) where
+module _ (b : Book) (ring work : List ℤ) (bill : Bill) (a : Result Unit Refusal) (h : verdict a ≡ lent_verdict b (lengths_of ring work bill) bill.region) where
   -- refused by 10, 11 or 21
-  pub billed-refused : (r : Refusal) → a ≡ Refused r → outcome (record { book = b; judgement = Not-judged r }) work ≡ billed b ring work bill
+  pub billed-refused : (r : Refusal) → a ≡ Err r → outcome (record { book = b; answer = Err r }) work ≡ billed b ring work bill
   billed-refused r q =
       let p = is-refused a _ h r q in
       rw (billed-is b ring work bill, p.1, p.0) refl
 
-  module _ (q : a ≡ Accepted) where
+  module _ (q : a ≡ Ok tt) where
     pub lent_ok : LentOk b (lengths_of ring work bill) bill.region
-    lent_ok = lent_is b (lengths_of ring work bill) bill.region (rw (is-accepted a _ h q) refl)
+    lent_ok = lent_is b (lengths_of ring work bill) bill.region (rw (is-accepted a _ h tt q) refl)
 
-    pub billed-judged : (p : Played) (work' : List ℤ) (j : Judgement) → told_in p work' ≡ told bill.lines (day_of b ring bill)
+    pub billed-judged : (p : Played) (work' : List ℤ) (j : Result (Option ℕ) Refusal) → told_in p work' ≡ told bill.lines (day_of b ring bill)
         → said j ≡ said_by (verdict p.answer) p.count p.right (length bill.lines.numbers) bill.lines.energy
-        → outcome (record { book = b; judgement = j }) work' ≡ billed b ring work bill
+        → outcome (record { book = b; answer = j }) work' ≡ billed b ring work bill
     billed-judged p work' j t s =
-        let e = is-accepted a _ h q in
+        let e = is-accepted a _ h tt q in
         let by : Told → Outcome = λ x. outcome_by (said_by x.verdict x.count x.right (length bill.lines.numbers) bill.lines.energy) b x.ring in
         let d : by (told_in p work') ≡ judged b bill.lines (day_of b ring bill) = ap by t ∙ judged-by b bill.lines (day_of b ring bill) lent_ok.energy in
         rw (billed-is b ring work bill, e) (ap (λ (x : Said). outcome_by x b work') s ∙ d)

@@ -1,16 +1,15 @@
 -- Holding a retailer's bill against the rules: the whole call. Assumes nothing.
-use Rattle.std.specs.Prelude.{not, List, [], ◌∷◌, ◌++◌, ℕ, zero, suc, leb, ltb, ℤ, length}
+use Rattle.std.specs.Prelude.{Result, Ok, Err, Option, Some, None, not, List, [], ◌∷◌, ◌++◌, ℕ, zero, suc, leb, ltb, ℤ, length}
 use Rattle.laws.specs.Base.{pick}
 use Rattle.pricing.specs.Verdict.{Verdict, accepted, refused_at}
 use Rattle.book.specs.declared.record.Book.{Book}
-use Rattle.book.specs.Record.{verdict_of, is_accepted}
+use Rattle.book.specs.Record.{verdict, is_accepted}
 use Rattle.bill_lines.specs.declared.lent.Lengths.{Lengths}
 use Rattle.bill_lines.specs.Lines.{Lines, Shown, shown_as, how_long, first_wrong, first_heavy}
 use Rattle.bill_lines.specs.Lent.{lent_verdict}
 use Rattle.interval_entry.specs.Taking as Taking
-use Rattle.billing.specs.declared.Judgement.{Judgement}
-use Rattle.billing.specs.declared.Judgement.TheVariants.{Right, Wrong, Refused}
-use Rattle.billing.specs.declared.Billed.{Billed}
+use Rattle.book.specs.declared.record.Reply.{Reply}
+use Rattle.book.specs.declared.record.Refusal.{Refusal}
 
 -- "the day's records, one schedule, a region and the lines"
 pub record Bill : Type 0 where
@@ -99,27 +98,22 @@ billed b ring work bill =
     let v = lent_verdict b (lengths_of ring work bill) bill.region in
     pick (is_accepted v) (judged b bill.lines (day_of b ring bill)) (refusal v b work)
 
--- the paper's number and values for each case
-abbrev pub verdict : Judgement → Verdict
-verdict Right = accepted
-verdict (Wrong line) = accepted
-verdict (Refused r) = verdict_of r
+-- the paper's values for each case: no wrong line, the first, or a refusal
+abbrev pub right_in : Result (Option ℕ) Refusal → ℕ
+right_in (Ok None) = 1
+right_in (Ok (Some line)) = 0
+right_in (Err r) = 0
 
-abbrev pub right_in : Judgement → ℕ
-right_in Right = 1
-right_in (Wrong line) = 0
-right_in (Refused r) = 0
+abbrev pub line_in : Result (Option ℕ) Refusal → ℕ
+line_in (Ok None) = 0
+line_in (Ok (Some line)) = line
+line_in (Err r) = 0
 
-abbrev pub line_in : Judgement → ℕ
-line_in Right = 0
-line_in (Wrong line) = line
-line_in (Refused r) = 0
-
-abbrev pub outcome : Billed → List ℤ → Outcome
+abbrev pub outcome : Reply (Option ℕ) → List ℤ → Outcome
 outcome r work = record {
-  verdict = verdict r.judgement;
-  right = right_in r.judgement;
-  line = line_in r.judgement;
+  verdict = verdict r.answer;
+  right = right_in r.answer;
+  line = line_in r.answer;
   book = r.book;
   work = work;
 }

@@ -16,8 +16,7 @@ use Rattle.pricing.specs.Verdict.{Verdict, accepted, refused}
 use Rattle.pricing.specs.Holding.{is_energy, in_range}
 use Rattle.book.specs.declared.record.Book.{Book}
 use Rattle.book.specs.declared.record.Refusal.{Refusal}
-use Rattle.book.specs.declared.record.Answer.{Answer}
-use Rattle.book.specs.declared.record.Answer.TheVariants as answer
+use Rattle.std.specs.Prelude.{Result, Ok, Err}
 use Rattle.book.specs.Record.{markets_of, ring_size, place_of, verdict, is_accepted}
 use Rattle.book.specs.Validity.{valid}
 use Rattle.book.proofs.Passes.{passes-not}
@@ -28,7 +27,6 @@ use Rattle.head.specs.Counted.{window_of, market_count}
 use Rattle.image.specs.Storing.{prices_ok}
 use Rattle.image.proofs.Walks.{Market, market}
 use Rattle.ledger.proofs.Ranges.{prices-is}
-use Rattle.planning.specs.declared.Left.TheVariants.{Intervals, Refused}
 use Rattle.planning.specs.Left as Left
 use Rattle.planning.specs.Left.{least_above, left_verdict, window_in, market_left, intervals_left}
 use Rattle.planning.specs.Working.{WindowOk, Accepts}
@@ -106,19 +104,19 @@ module _ (b : Book) (ring : List ℤ) (region market : ℕ) (price : ℤ) where
       }
 
   -- ---- the outcome, of an answer that says the verdict
-  module _ (a : Answer) (h : verdict a ≡ left_verdict b ring region market price) where
-    pub left_is : a ≡ answer.Accepted → Accepts b ring region market
-    left_is e = accepts (ap is_accepted (is-accepted a (left_verdict b ring region market price) h e))
+  module _ (a : Result Unit Refusal) (h : verdict a ≡ left_verdict b ring region market price) where
+    pub left_is : a ≡ Ok tt → Accepts b ring region market
+    left_is e = accepts (ap is_accepted (is-accepted a (left_verdict b ring region market price) h tt e))
 
-    pub planned-refused : (r : Refusal) → a ≡ answer.Refused r
-        → Left.outcome (record { book = b; left = Refused r }) ≡ intervals_left b ring region market price
+    pub planned-refused : (r : Refusal) → a ≡ Err r
+        → Left.outcome (record { book = b; answer = Err r }) ≡ intervals_left b ring region market price
     unfolding intervals_left
     planned-refused r e = let w = is-refused a (left_verdict b ring region market price) h r e in rw (w.1, w.0) refl
 
-    pub planned-accepted : a ≡ answer.Accepted → (n : ℕ) → n ≡ market_left b ring region market price
-        → Left.outcome (record { book = b; left = Intervals n }) ≡ intervals_left b ring region market price
+    pub planned-accepted : a ≡ Ok tt → (n : ℕ) → n ≡ market_left b ring region market price
+        → Left.outcome (record { book = b; answer = Ok n }) ≡ intervals_left b ring region market price
     unfolding intervals_left
-    planned-accepted e n q = rw (is-accepted a (left_verdict b ring region market price) h e, q) refl
+    planned-accepted e n q = rw (is-accepted a (left_verdict b ring region market price) h tt e, q) refl
 
 -- ---- the window of a market that the book has, as the code reads it
 module _ (b : Book) (ring : List ℤ) (region m : ℕ) (a : Accepts b ring region m) where

@@ -1,19 +1,18 @@
 -- Intervals left before a period (request 2026-02). Assumes nothing.
-use Rattle.std.specs.Prelude.{◌≡◌, Bool, true, false, not, List, ◌++◌, ℕ, suc, ◌+◌, ◌*◌, ◌≤◌, ◌<◌, eqb, ltb, ℤ, length, replicate}
+use Rattle.std.specs.Prelude.{Result, Ok, Err, ◌≡◌, Bool, true, false, not, List, ◌++◌, ℕ, suc, ◌+◌, ◌*◌, ◌≤◌, ◌<◌, eqb, ltb, ℤ, length, replicate}
 use Rattle.std.specs.Int.Signed.{lt_z}
 use Rattle.laws.specs.Base.{pick}
 use Rattle.laws.specs.Lists.{total, last_n, first_below}
 use Rattle.pricing.specs.Verdict.{Verdict, accepted, refused}
 use Rattle.pricing.specs.Holding.{is_energy, in_range}
 use Rattle.book.specs.declared.record.Book.{Book}
-use Rattle.book.specs.Record.{markets_of, ring_size, verdict_of, is_accepted}
+use Rattle.book.specs.Record.{markets_of, ring_size, verdict, is_accepted}
 use Rattle.book.specs.Validity.{valid}
 use Rattle.book_calls.specs.Report.{report_verdict}
 use Rattle.head.specs.Counted.{in_order}
 use Rattle.image.specs.Storing.{prices_ok}
-use Rattle.planning.specs.declared.Left.{Left}
-use Rattle.planning.specs.declared.Left.TheVariants.{Intervals, Refused}
-use Rattle.planning.specs.declared.Planned.{Planned}
+use Rattle.book.specs.declared.record.Reply.{Reply}
+use Rattle.book.specs.declared.record.Refusal.{Refusal}
 
 -- "further unmarked intervals, .. each bringing the window that price, .. old prices leaving as they would": the sum after n of
 -- them, of a window of W that counts these prices, oldest first
@@ -70,14 +69,10 @@ intervals_left b ring region market price =
     (record { verdict = accepted; intervals = market_left b ring region market price; book = b })
     (record { verdict = left_verdict b ring region market price; intervals = 0; book = b })
 
--- the paper's number and value for each case: the number of intervals, or zero beside a refusal
-abbrev pub verdict : Left → Verdict
-verdict (Intervals n) = accepted
-verdict (Refused r) = verdict_of r
+-- the paper's value for each case: the number of intervals, or zero beside a refusal
+abbrev pub intervals_in : Result ℕ Refusal → ℕ
+intervals_in (Ok n) = n
+intervals_in (Err r) = 0
 
-abbrev pub intervals_in : Left → ℕ
-intervals_in (Intervals n) = n
-intervals_in (Refused r) = 0
-
-abbrev pub outcome : Planned → Outcome
-outcome r = record { verdict = verdict r.left; intervals = intervals_in r.left; book = r.book }
+abbrev pub outcome : Reply ℕ → Outcome
+outcome r = record { verdict = verdict r.answer; intervals = intervals_in r.answer; book = r.book }

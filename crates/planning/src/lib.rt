@@ -7,24 +7,11 @@ ghost use Rattle.head.specs.Counted.{window_of};
 ghost use Rattle.planning.specs.Left.{least_above, left_verdict, market_left, outcome, intervals_left};
 ghost use Rattle.planning.specs.Working.{leaving, WindowOk, Accepts};
 
-use book::record::{Answer, Book, Refusal, ring_size};
+use book::record::{Book, Refusal, Reply, ring_size};
 use book::validity::valid;
 use head::counted::oldest;
 use image::storing::prices_ok;
 use pricing::holding::in_range;
-
-// The number of intervals, 0 if no number makes the sum exceed the threshold; or the first refusal.
-#[derive(Clone, Copy)]
-pub enum Left {
-    Intervals(u16),
-    Refused(Refusal),
-}
-
-#[derive(Clone, Copy)]
-pub struct Planned {
-    pub book: Book,
-    pub left: Left,
-}
 
 // The price that leaves a window of which `count` are counted, the oldest at its place `start`, when one joins it after `n` others.
 fn leaving(ring: &[i32], base: usize, window: usize, start: usize, count: usize, n: usize) -> i32
@@ -41,7 +28,7 @@ fn leaving(ring: &[i32], base: usize, window: usize, start: usize, count: usize,
     ring[base + (k - window)]
 }
 
-// One pass over the window, from its sum and its oldest price on.
+// One pass over the window, from its sum and its oldest price on. Kept: 0 where no number does is the answer that the request names.
 fn least_above(
     ring: &[i32],
     base: usize,
@@ -57,38 +44,42 @@ fn least_above(
     ensures upper_bound { result ≤ window }
 {
     let mut now = sum;
-    let mut n: usize = 0;
-    while n < window {
+    for n in 0..window {
         let old = leaving(ring, base, window, start, count, n);
         now = now + (price as i64 - old as i64);
-        n += 1;
         if threshold < now {
-            return n;
+            return n + 1;
         }
     }
     0
 }
 
 // 10, 11, 21, 22 and 43 in order.
-fn left_verdict(book: Book, ring: &[i32], region: u32, market: u32, price: i32) -> Answer
+fn left_verdict(
+    book: Book,
+    ring: &[i32],
+    region: u32,
+    market: u32,
+    price: i32,
+) -> Result<(), Refusal>
     ensures { verdict result ≡ left_verdict book ring.now region market price }
 {
     if !valid(book) {
-        return Answer::Refused(Refusal::Invalid);
+        return Err(Refusal::Invalid);
     }
     if ring.len() != ring_size(book.regions, book.services, book.window) {
-        return Answer::Refused(Refusal::Length);
+        return Err(Refusal::Length);
     }
     if !((region < book.regions as u32) & (market <= book.services as u32)) {
-        return Answer::Refused(Refusal::Market);
+        return Err(Refusal::Market);
     }
     if !prices_ok(book, ring) {
-        return Answer::Refused(Refusal::Sums);
+        return Err(Refusal::Sums);
     }
     if !in_range(market as usize, price) {
-        return Answer::Refused(Refusal::PlannedPrice);
+        return Err(Refusal::PlannedPrice);
     }
-    Answer::Accepted
+    Ok(())
 }
 
 // The number of a market that the book has, once nothing is refused.
@@ -116,22 +107,20 @@ fn market_left(book: Book, ring: &[i32], region: usize, market: usize, price: i3
     ) as u16
 }
 
-// How many further unmarked intervals at a price make a market's sum exceed the threshold; the book and ring stay.
-pub fn intervals_left(book: Book, ring: &[i32], region: u32, market: u32, price: i32) -> Planned
+// How many further unmarked intervals at a price make a market's sum exceed the threshold, 0 if no number does; the book and ring stay.
+pub fn intervals_left(book: Book, ring: &[i32], region: u32, market: u32, price: i32) -> Reply<u16>
     ensures { outcome result ≡ intervals_left book ring.now region market price }
 {
     let answer = left_verdict(book, ring, region, market, price);
-    match answer {
-        Answer::Refused(refusal) => Planned {
+    if let Err(refusal) = answer {
+        return Reply {
             book,
-            left: Left::Refused(refusal),
-        },
-        Answer::Accepted => {
-            let n = market_left(book, ring, region as usize, market as usize, price);
-            Planned {
-                book,
-                left: Left::Intervals(n),
-            }
-        }
+            answer: Err(refusal),
+        };
+    }
+    let n = market_left(book, ring, region as usize, market as usize, price);
+    Reply {
+        book,
+        answer: Ok(n),
     }
 }

@@ -12,8 +12,7 @@ use Rattle.laws.proofs.Lists.{tabulate-same}
 use Rattle.pricing.specs.Verdict.{Verdict, accepted, refused}
 use Rattle.book.specs.declared.record.Book.{Book}
 use Rattle.book.specs.declared.record.Refusal.{Refusal}
-use Rattle.book.specs.declared.record.Answer.{Answer}
-use Rattle.book.specs.declared.record.Answer.TheVariants.{Accepted, Refused}
+use Rattle.std.specs.Prelude.{Result, Ok, Err}
 use Rattle.book.specs.Record.{markets_of, table_size, link_count, is_accepted}
 use Rattle.book.specs.Record as Record
 use Rattle.book.specs.Validity.{valid}
@@ -23,7 +22,6 @@ use Rattle.interval_records.specs.Layout.{Interval, interval_of}
 use Rattle.intervals.specs.Lent.{slices_ok}
 use Rattle.intervals.specs.Working.{lent_verdict}
 use Rattle.intervals.proofs.Sizes.{prices-size, marked-size, flows-size, factors-size}
-use Rattle.synthetic.specs.declared.Draw.TheVariants.{Made, Refused as Not-made}
 use Rattle.drawing.specs.Drawing.{seed_after, drawn, price_of, flow_of, factor_of}
 use Rattle.synthetic.specs.Synthetic.{draw_verdict, outcome, synthesized}
 use Rattle.synthetic.proofs.Seeds.{seed-add}
@@ -65,18 +63,18 @@ module _ (b : Book) (s number kind : ℕ) (v : Interval) where
   unfolding lent_verdict
   same = draw-tests b lent
 
-  module _ (a : Answer) (h : Record.verdict a ≡ answered) where
-    pub draw-refused : (r : Refusal) → a ≡ Refused r
-        → outcome (record { book = b; draw = Not-made r }) v.prices v.marked v.flows v.factors
+  module _ (a : Result Unit Refusal) (h : Record.verdict a ≡ answered) where
+    pub draw-refused : (r : Refusal) → a ≡ Err r
+        → outcome (record { book = b; answer = Err r }) v.prices v.marked v.flows v.factors
         ≡ synthesized b s number kind lent
     unfolding synthesized
     draw-refused r q =
         let p = is-refused a answered h r q in
         rw (same, p.1, p.0) refl
 
-    module _ (q : a ≡ Accepted) where
+    module _ (q : a ≡ Ok tt) where
       takes : draw_verdict b lent ≡ accepted
-      takes = same ∙ is-accepted a answered h q
+      takes = same ∙ is-accepted a answered h tt q
 
       fits : slices_ok b v ≡ true
       fits =
@@ -97,7 +95,7 @@ module _ (b : Book) (s number kind : ℕ) (v : Interval) where
           → marked ≡ replicate (length v.marked) 0
           → flows ≡ tabulate (length v.flows) (λ r. flow_of (drawn between (2 * r)))
           → factors ≡ tabulate (length v.flows) (λ r. factor_of (drawn between (2 * r + 1)))
-          → outcome (record { book = b; draw = Made last number kind }) prices marked flows factors ≡ synthesized b s number kind lent
+          → outcome (record { book = b; answer = Ok (record { seed = last; number = number; kind = kind }) }) prices marked flows factors ≡ synthesized b s number kind lent
       unfolding synthesized
       draw-made between last prices marked flows factors eb el ep em ef ex =
           let N = table_size b.regions b.services in

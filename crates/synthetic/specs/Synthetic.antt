@@ -1,16 +1,16 @@
 -- The test load of an interval (request 2026-07). Assumes nothing.
-use Rattle.std.specs.Prelude.{not, List, ℕ, ◌+◌, ◌*◌, ◌%◌, ℤ, replicate}
+use Rattle.std.specs.Prelude.{Result, Ok, Err, not, List, ℕ, ◌+◌, ◌*◌, ◌%◌, ℤ, replicate}
 use Rattle.laws.specs.Base.{pick}
 use Rattle.laws.specs.Lists.{tabulate}
 use Rattle.pricing.specs.Verdict.{Verdict, accepted, refused}
 use Rattle.book.specs.declared.record.Book.{Book}
-use Rattle.book.specs.Record.{markets_of, table_size, link_count, verdict_of, is_accepted}
+use Rattle.book.specs.Record.{markets_of, table_size, link_count, verdict, is_accepted}
 use Rattle.book.specs.Validity.{valid}
 use Rattle.interval_records.specs.Layout.{Interval, interval_of}
 use Rattle.intervals.specs.Lent.{slices_ok}
 use Rattle.synthetic.specs.declared.Draw.{Draw}
-use Rattle.synthetic.specs.declared.Draw.TheVariants.{Made, Refused}
-use Rattle.synthetic.specs.declared.Synthetic.{Synthetic}
+use Rattle.book.specs.declared.record.Reply.{Reply}
+use Rattle.book.specs.declared.record.Refusal.{Refusal}
 use Rattle.drawing.specs.Drawing.{seed_after, drawn, price_of, flow_of, factor_of}
 
 -- "An interval draws its R × M prices, then flow and factor for each region. .. Marks are 0; the caller gives book, number and day kind",
@@ -44,29 +44,25 @@ pub record Outcome : Type 0 where
   pub book : Book
   pub interval : Interval
 
--- the paper's number and values for each case
-abbrev pub verdict : Draw → Verdict
-verdict (Made seed number kind) = accepted
-verdict (Refused r) = verdict_of r
+-- the paper's values for each case
+abbrev pub seed_in : Result Draw Refusal → ℕ
+seed_in (Ok d) = d.seed
+seed_in (Err r) = 0
 
-abbrev pub seed_in : Draw → ℕ
-seed_in (Made seed number kind) = seed
-seed_in (Refused r) = 0
+abbrev pub number_in : Result Draw Refusal → ℕ
+number_in (Ok d) = d.number
+number_in (Err r) = 0
 
-abbrev pub number_in : Draw → ℕ
-number_in (Made seed number kind) = number
-number_in (Refused r) = 0
+abbrev pub kind_in : Result Draw Refusal → ℕ
+kind_in (Ok d) = d.kind
+kind_in (Err r) = 0
 
-abbrev pub kind_in : Draw → ℕ
-kind_in (Made seed number kind) = kind
-kind_in (Refused r) = 0
-
-abbrev pub outcome : Synthetic → List ℤ → List ℕ → List ℤ → List ℕ → Outcome
+abbrev pub outcome : Reply Draw → List ℤ → List ℕ → List ℤ → List ℕ → Outcome
 outcome r prices marked flows factors = record {
-  verdict = verdict r.draw;
-  seed = seed_in r.draw;
+  verdict = verdict r.answer;
+  seed = seed_in r.answer;
   book = r.book;
-  interval = interval_of (number_in r.draw) (kind_in r.draw) prices marked flows factors;
+  interval = interval_of (number_in r.answer) (kind_in r.answer) prices marked flows factors;
 }
 
 -- accepted: the drawn interval, and "the last s back"; refused: what was lent, and zeros

@@ -1,27 +1,22 @@
 // A test load that anyone can remake: an interval's prices, marks, flows and factors, drawn from a seed.
 #![tactic(auto)]
 
-ghost use Rattle.std.specs.Prelude.{◌≡◌, ◌+◌, ◌*◌, ◌%◌, ◌<◌, length, replicate};
+ghost use Rattle.std.specs.Prelude.{◌≡◌, ◌+◌, ◌*◌, ◌%◌, ◌<◌, length};
 ghost use Rattle.laws.specs.Lists.{tabulate};
 ghost use Rattle.interval_records.specs.Layout.{interval_of};
 ghost use Rattle.drawing.specs.Drawing.{seed_after, drawn, price_of, flow_of, factor_of};
 ghost use Rattle.synthetic.specs.Synthetic.{outcome, synthesized};
 
-use book::record::{Answer, Book, Refusal};
+use book::record::{Book, Reply};
 use drawing::{factor_of, flow_of, next_seed, price_of};
 use intervals::lent::lent_verdict;
 
-// The last seed with the interval's number and day kind, or the first refusal.
+// The last seed of an interval that was drawn, with its number and day kind.
 #[derive(Clone, Copy)]
-pub enum Draw {
-    Made { seed: u32, number: u32, kind: u8 },
-    Refused(Refusal),
-}
-
-#[derive(Clone, Copy)]
-pub struct Synthetic {
-    pub book: Book,
-    pub draw: Draw,
+pub struct Draw {
+    pub seed: u32,
+    pub number: u32,
+    pub kind: u8,
 }
 
 // Draws a price for each place; answers the last seed.
@@ -31,11 +26,9 @@ fn draw_prices(seed: u32, markets: usize, prices: &mut [i32]) -> u32
     ensures prices_after { prices.new ≡ tabulate (length prices.old) (λ q. price_of (q % markets) (drawn seed q)) }
 {
     let mut s = seed;
-    let mut q: usize = 0;
-    while q < prices.len() {
+    for q in 0..prices.len() {
         s = next_seed(s);
         prices[q] = price_of(q % markets, s / 65536);
-        q += 1;
     }
     s
 }
@@ -48,25 +41,13 @@ fn draw_links(seed: u32, flows: &mut [i32], factors: &mut [u32]) -> u32
     ensures factors_after { factors.new ≡ tabulate (length flows.old) (λ r. factor_of (drawn seed (2 * r + 1))) }
 {
     let mut s = seed;
-    let mut r: usize = 0;
-    while r < flows.len() {
+    for r in 0..flows.len() {
         let first = next_seed(s);
         flows[r] = flow_of(first / 65536);
         s = next_seed(first);
         factors[r] = factor_of(s / 65536);
-        r += 1;
     }
     s
-}
-
-fn unmark(marked: &mut [u8])
-    ensures { marked.new ≡ replicate (length marked.old) 0 }
-{
-    let mut r: usize = 0;
-    while r < marked.len() {
-        marked[r] = 0;
-        r += 1;
-    }
 }
 
 // Fills an interval's four slices from a seed, and hands its number and day kind back with the last seed.
@@ -79,27 +60,27 @@ pub fn synthesize(
     marked: &mut [u8],
     flows: &mut [i32],
     factors: &mut [u32],
-) -> Synthetic
+) -> Reply<Draw>
     ensures { let lent = interval_of 0 0 prices.old marked.old flows.old factors.old in
         outcome result prices.new marked.new flows.new factors.new
         ≡ synthesized book seed number kind lent }
 {
     let lent = lent_verdict(book, prices.len(), marked.len(), flows.len(), factors.len());
-    if let Answer::Refused(refusal) = lent {
-        return Synthetic {
+    if let Err(refusal) = lent {
+        return Reply {
             book,
-            draw: Draw::Refused(refusal),
+            answer: Err(refusal),
         };
     }
     let between = draw_prices(seed, book.services as usize + 1, prices);
-    unmark(marked);
+    marked.fill(0);
     let last = draw_links(between, flows, factors);
-    Synthetic {
+    Reply {
         book,
-        draw: Draw::Made {
+        answer: Ok(Draw {
             seed: last,
             number,
             kind,
-        },
+        }),
     }
 }

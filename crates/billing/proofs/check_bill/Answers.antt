@@ -9,18 +9,25 @@ use Rattle.billing.specs.Working.{told, told_in}
 use Rattle.billing.proofs.Judging.{billed-refused, lent_ok, billed-judged}
 use Rattle.billing.proofs.check_bill.Goals as goal
 
-pub returns-in-Refused : goal.returns-in-Refused
-returns-in-Refused c =
+pub returns-in-Err : goal.returns-in-Err
+returns-in-Err c =
     let a = c.args in
     let bill = bill_of a.records.now a.schedule.now a.region (lines_of a.numbers.now a.energy.now a.prices.now a.amounts.now) in
-    billed-refused a.book a.ring.now a.work.now bill c.lent_verdict-lent.result c.lent_verdict-lent.ensures _ c.in-Refused.is
+    billed-refused a.book a.ring.now a.work.now bill c.lent_verdict-lent.result c.lent_verdict-lent.ensures _ c.in-Err.is
 
-pub copy-requires : goal.copy-requires
-copy-requires c =
+pub copy_from_slice-requires : goal.copy_from_slice-requires
+copy_from_slice-requires c =
     let a = c.args in
     let bill = bill_of a.records.now a.schedule.now a.region (lines_of a.numbers.now a.energy.now a.prices.now a.amounts.now) in
     let l = lent_ok a.book a.ring.now a.work.now bill c.lent_verdict-lent.result c.lent_verdict-lent.ensures c.in_default.is in
     l.work
+
+pub invariant_of-lines : goal.invariant_of-lines
+invariant_of-lines c =
+    let a = c.args in
+    let bill = bill_of a.records.now a.schedule.now a.region (lines_of a.numbers.now a.energy.now a.prices.now a.amounts.now) in
+    let l = lent_ok a.book a.ring.now a.work.now bill c.lent_verdict-lent.result c.lent_verdict-lent.ensures c.in_default.is in
+    record { energy = l.energy; prices = l.prices; amounts = l.amounts }
 
 pub play_day-played-requires : goal.play_day-played-requires
 play_day-played-requires c =
@@ -28,14 +35,14 @@ play_day-played-requires c =
     let bill = bill_of a.records.now a.schedule.now a.region (lines_of a.numbers.now a.energy.now a.prices.now a.amounts.now) in
     let l = lent_ok a.book a.ring.now a.work.now bill c.lent_verdict-lent.result c.lent_verdict-lent.ensures c.in_default.is in
     let v = valid-is a.book l.valid in
-    record { regions_bound = (v.regions, v.services, l.inside); energy_len = (l.energy, l.prices, l.amounts) }
+    (v.regions, v.services, l.inside)
 
 pub returns : goal.returns
 returns c =
     let a = c.args in
     let bill = bill_of a.records.now a.schedule.now a.region (lines_of a.numbers.now a.energy.now a.prices.now a.amounts.now) in
-    let work : c.copy.new.work ≡ a.ring.now = c.copy.ensures in
+    let work : c.copy_from_slice.new.self ≡ a.ring.now = c.copy_from_slice.ensures.after in
     let day : told_in c.play_day-played.result c.play_day-played.new.work ≡ told bill.lines (day_of a.book a.ring.now bill) =
     c.play_day-played.ensures ∙ ap (λ (l : List ℤ). told bill.lines (day_of a.book l bill)) work in
     billed-judged a.book a.ring.now a.work.now bill c.lent_verdict-lent.result c.lent_verdict-lent.ensures c.in_default.is
-    c.play_day-played.result _ c.judgement_of-judgement.result day c.judgement_of-judgement.ensures
+    c.play_day-played.result _ c.judgement_of.result day c.judgement_of.ensures

@@ -15,18 +15,18 @@ market_left-n-requires c =
     verdict c.left_verdict-answer.result ≡ left_verdict a.book a.ring.now a.region a.market a.price = (let f : SFits w32 c.args.price = search rules in
     rw (to_z-of_z f) at c.left_verdict-answer.ensures) in
     let a = c.args in
-    left_is a.book a.ring.now a.region a.market a.price _ (said) c.in-Accepted.is
+    left_is a.book a.ring.now a.region a.market a.price _ (said) c.in_default.is
 
-pub returns-in-Refused : goal.returns-in-Refused
-returns-in-Refused c =
+pub returns-in-Err : goal.returns-in-Err
+returns-in-Err c =
     let said : let a = c.args in
     verdict c.left_verdict-answer.result ≡ left_verdict a.book a.ring.now a.region a.market a.price = (let f : SFits w32 c.args.price = search rules in
     rw (to_z-of_z f) at c.left_verdict-answer.ensures) in
     let a = c.args in
-    planned-refused a.book a.ring.now a.region a.market a.price _ (said) _ c.in-Refused.is
+    planned-refused a.book a.ring.now a.region a.market a.price _ (said) _ c.in-Err.is
 
-pub returns-in-Accepted : goal.returns-in-Accepted
-returns-in-Accepted c =
+pub returns : goal.returns
+returns c =
     let said : let a = c.args in
     verdict c.left_verdict-answer.result ≡ left_verdict a.book a.ring.now a.region a.market a.price = (let f : SFits w32 c.args.price = search rules in
     rw (to_z-of_z f) at c.left_verdict-answer.ensures) in
@@ -34,4 +34,4 @@ returns-in-Accepted c =
     let f : SFits w32 a.price = search rules in
     let n : c.market_left-n.result ≡ market_left a.book a.ring.now a.region a.market a.price =
     rw (to_z-of_z f) at c.market_left-n.ensures in
-    planned-accepted a.book a.ring.now a.region a.market a.price _ (said) c.in-Accepted.is _ n
+    planned-accepted a.book a.ring.now a.region a.market a.price _ (said) c.in_default.is _ n

