@@ -13,4 +13,5 @@ pub mod Numbers
 pub mod RoundTrips
 pub mod Walks
 pub mod Runs
+pub mod Windows
 pub mod Ways

@@ -17,13 +17,15 @@ use Rattle.laws.specs.Bytes.{words, price_at}
 use Rattle.laws.proofs.Bytes.{sets-append, sets-whole}
 use Rattle.laws.proofs.Lists.{length_run}
 use Rattle.laws.proofs.Words.{length-words, words_append}
+use Rattle.pricing.specs.Verdict.{accepted, refused_at}
 use Rattle.book.specs.declared.record.Book.{Book}
 use Rattle.book.specs.Record.{markets_of}
 use Rattle.book.specs.Validity.{valid}
 use Rattle.book.proofs.Validities.{Valid, valid-is}
 use Rattle.head.specs.Counted.{market_count, count_at, oldest_at, how_many}
 use Rattle.image.specs.Loading.{bad_in, bad_from, ring_of, loaded_window, windows_from, sums_from}
-use Rattle.head.proofs.Counts.{sum-none, sum_step}
+use Rattle.image.specs.Working.{price_verdict}
+use Rattle.head.proofs.Counts.{sum-none, sum_step, sum_done}
 use Rattle.image.proofs.Readings.{place_at}
 use Rattle.image.proofs.Markets.{region-of, count_of, place_of, prices-are}
 
@@ -90,6 +92,11 @@ module _ (b : Book) (v : valid b ≡ true) where
 
   pub left_step : (q at all : ℕ) → q < market_count b → at + 4 * sum_from (market_count b - q) q (count_at b) ≡ all → at + 4 * count_at b q + 4 * sum_from (market_count b - (q + 1)) (q + 1) (count_at b) ≡ all
   left_step q at all h e = omega (arith, sum_step (count_at b) (market_count b) q h)
+
+  pub left_done : (q at all : ℕ) → market_count b ≤ q → at + 4 * sum_from (market_count b - q) q (count_at b) ≡ all → at ≡ all
+  left_done q at all h e =
+      let rest = sum_from (market_count b - q) q (count_at b) in
+      let none : 0 ≡ rest = sum_done (count_at b) (market_count b) q 0 rest h (omega arith) in omega arith
 
 -- ---- prices written
 module _ (f : ℕ → List ℤ) where
@@ -187,3 +194,10 @@ module _ (b : Book) (l : List ℕ) where
     pub bad-done : (N q k r : ℕ) → N ≤ q → bad_from b l first (N - q) q k ≡ r → k ≡ r
     unfolding bad_from
     bad-done N q k r h e = let z : N - q ≡ 0 = omega arith in rw z at e
+
+    -- 16 by the first bad price: at this place, or at none
+    pub price-16 : (k : ℕ) → bad_from b l first (market_count b) 0 0 ≡ k → k < how_many b → refused_at 16 k ≡ price_verdict b l first
+    price-16 k e h = rw (e, lt-ltb k (how_many b) h) refl
+
+    pub price-0 : (k : ℕ) → bad_from b l first (market_count b) 0 0 ≡ k → how_many b ≤ k → accepted ≡ price_verdict b l first
+    price-0 k e h = rw (e, le-ltb k (how_many b) h) refl

@@ -6,31 +6,29 @@ use mathlib.Core.List.{List, ◌++◌, append_assoc}
 use Prim.Native.Nat.{ℕ, ◌+◌, ◌*◌, ◌≤◌, ◌<◌}
 use native.Mathlib.Omega.{arith}
 use borrow.Author.Tests.{lt-ltb, le-ltb, eq-eqb, ne_eqb}
-use lib.Dec.{eqb}
 use lib.IntN.{ℤ, pos}
 use lib.ListN.{length, drop, replicate, length-append}
 use lib.Seq.{sets}
 use Rattle.laws.specs.Bytes.{number_at, encode, words}
 use Rattle.laws.proofs.Bytes.{sets-append, sets-front}
-use Rattle.pricing.specs.Verdict.{Verdict, accepted, refused, refused_at}
+use Rattle.pricing.specs.Verdict.{accepted, refused}
 use Rattle.book.specs.declared.record.Book.{Book}
 use Rattle.book.specs.declared.record.Refusal.{Refusal}
-use Rattle.book.specs.declared.record.Answer.{Answer}
-use Rattle.book.specs.declared.record.Answer.TheVariants.{Accepted, Refused}
+use Rattle.std.specs.Prelude.{Result, Ok, Err}
 use Rattle.book.specs.Record.{closed, verdict, is_accepted}
 use Rattle.book.specs.Validity.{valid}
 use Rattle.book.proofs.Validities.{Valid, is-valid}
 use Rattle.book.proofs.Ways.{is-accepted, is-refused}
-use Rattle.image.specs.declared.storing.Image.TheVariants as image
 use Rattle.head.specs.Counted.{market_count, counted, how_many}
 use Rattle.head.specs.Layout.{widths, kind_of, head_size, length_of, values, tail_of, front_of, image_of, is_second, book_of, head_from}
 use Rattle.head.proofs.Tails.{head-within}
 use Rattle.image.specs.Storing.{prices_ok, kind_tells, store_verdict, stored}
 use Rattle.image.specs.Storing as store
-use Rattle.image.specs.Loading.{lacks_tail, kind_ok, fields_ok, head_verdict, bad_from, first_bad, ring_of, load_verdict, checked, windows_from, sums_from, book_from, ring_from, loaded}
+use Rattle.image.specs.Loading.{lacks_tail, kind_ok, fields_ok, head_verdict, ring_of, load_verdict, checked, windows_from, sums_from, book_from, ring_from, loaded}
 use Rattle.image.specs.Loading as load
+use Rattle.image.specs.Working.{price_verdict}
 use Rattle.image.proofs.Lengths.{front_length, length-image}
-use Rattle.image.proofs.Verdicts.{head-tests, head_ok, LoadOk, load_ok, ok_load, ok-loaded, StoreOk, store-tests, store_ok, ok_stored}
+use Rattle.image.proofs.Verdicts.{head-tests, head_ok, LoadOk, load_ok, ok-loaded, StoreOk, store-tests, store_ok, ok_stored}
 
 -- ---- the head of an image
 module _ (l : List ℕ) where
@@ -72,20 +70,9 @@ module _ (l : List ℕ) (n : ℕ) where
     unfolding load_verdict
     load-11 q = rw (a, ne_eqb n (ring_of (head_from l)) (λ r. q (r ∙ sym (ap ring_of e))))
 
-    module _ (q : n ≡ ring_of b) (at bad : ℕ) (p : at ≡ head_size (is_second l)) (f : bad ≡ bad_from b l at (market_count b) 0 0) where
-      sized : eqb n (ring_of (head_from l)) ≡ true
-      sized = eq-eqb n (ring_of (head_from l)) (q ∙ ap ring_of e)
-
-      bad-is : bad ≡ first_bad l
-      bad-is = rw (e, p) at f
-
-      pub load-16 : bad < how_many b → refused_at 16 bad ≡ load_verdict l n
-      unfolding load_verdict
-      load-16 t = rw (a, sized, lt-ltb (first_bad l) (how_many (head_from l)) (omega (arith, bad-is, ap how_many e)), bad-is)
-
-      pub load-0 : how_many b ≤ bad → accepted ≡ load_verdict l n
-      load-0 t =
-          sym (ok_load l n (record { head = head_ok l (ap is_accepted a); ring = q ∙ ap ring_of e; good = omega (arith, bad-is, ap how_many e) }))
+    pub load-prices : n ≡ ring_of b → (at : ℕ) → at ≡ head_size (is_second l) → price_verdict b l at ≡ load_verdict l n
+    unfolding load_verdict
+    load-prices q at p = rw (a, eq-eqb n (ring_of (head_from l)) (q ∙ ap ring_of e), e, p)
 
 -- a good head is long enough to be read
 pub head-long : (l : List ℕ) → head_verdict l ≡ accepted → 148 ≤ length l
@@ -102,30 +89,20 @@ pub head-tailed : (l : List ℕ) → head_verdict l ≡ accepted → (148 ≤ le
 head-tailed l a = (head-long l a, λ t. let m = (head_ok l (ap is_accepted a)).long in rw t at m)
 
 -- ---- the image check
-module _ (l : List ℕ) where
-  pub check-head : is_accepted (head_verdict l) ≡ false → (head_verdict l).number ≡ checked l
-  unfolding checked
-  check-head a = ap (λ (v : Verdict). v.number) (load-head l (ring_of (head_from l)) a)
-
-  module _ (a : head_verdict l ≡ accepted) (b : Book) (e : b ≡ head_from l) (at bad : ℕ) (p : at ≡ head_size (is_second l)) (f : bad ≡ bad_from b l at (market_count b) 0 0) where
-    pub check-16 : bad < how_many b → 16 ≡ checked l
-    unfolding checked
-    check-16 c = ap (λ (v : Verdict). v.number) (load-16 l (ring_of (head_from l)) a b e (sym (ap ring_of e)) at bad p f c)
-
-    pub check-0 : how_many b ≤ bad → 0 ≡ checked l
-    unfolding checked
-    check-0 c = ap (λ (v : Verdict). v.number) (load-0 l (ring_of (head_from l)) a b e (sym (ap ring_of e)) at bad p f c)
+pub check-says : (l : List ℕ) → (load_verdict l (ring_of (head_from l))).number ≡ checked l
+unfolding checked
+check-says l = refl
 
 -- ---- the outcome of a load
-module _ (l : List ℕ) (g : List ℤ) (a : Answer) (h : verdict a ≡ load_verdict l (length g)) where
-  pub loaded-refused : (b : Book) (r : Refusal) → a ≡ Refused r → b ≡ closed → load.outcome (record { book = b; answer = a }) g ≡ loaded l g
+module _ (l : List ℕ) (g : List ℤ) (a : Result Unit Refusal) (h : verdict a ≡ load_verdict l (length g)) where
+  pub loaded-refused : (b : Book) (r : Refusal) → a ≡ Err r → b ≡ closed → load.outcome (record { book = b; answer = a }) g ≡ loaded l g
   unfolding loaded
   loaded-refused b r e q = rw ((is-refused a (load_verdict l (length g)) h r e).1, h, q)
 
-  pub load_is : a ≡ Accepted → LoadOk l (length g)
-  load_is e = load_ok l (length g) (ap is_accepted (is-accepted a (load_verdict l (length g)) h e))
+  pub load_is : a ≡ Ok tt → LoadOk l (length g)
+  load_is e = load_ok l (length g) (ap is_accepted (is-accepted a (load_verdict l (length g)) h tt e))
 
-  pub loaded-accepted : a ≡ Accepted → (b : Book) (s g' : List ℤ) (at : ℕ) → b ≡ head_from l → at ≡ head_size (is_second l)
+  pub loaded-accepted : a ≡ Ok tt → (b : Book) (s g' : List ℤ) (at : ℕ) → b ≡ head_from l → at ≡ head_size (is_second l)
       → s ≡ sums_from b l (market_count b) 0 at (replicate 88 (pos 0)) → g' ≡ windows_from b l (market_count b) 0 at
       → load.outcome (record {
         book = record {
@@ -189,16 +166,16 @@ image-is second b ring d v k h =
     ∙ ap (sets d 0) (append_assoc head tail rest) ∙ sets-front d (head ++ (tail ++ rest)) (omega arith)
     ∙ ap (λ (i : ℕ). (head ++ (tail ++ rest)) ++ drop i d) n
 
-module _ (second : Bool) (b : Book) (ring : List ℤ) (d : List ℕ) (a : Answer) (h : verdict a ≡ store_verdict second b ring (length d)) where
-  pub stored_refused : (r : Refusal) → a ≡ Refused r → store.outcome (record { book = b; image = image.Refused r }) d ≡ stored second b ring d
+module _ (second : Bool) (b : Book) (ring : List ℤ) (d : List ℕ) (a : Result Unit Refusal) (h : verdict a ≡ store_verdict second b ring (length d)) where
+  pub stored_refused : (r : Refusal) → a ≡ Err r → store.outcome (record { book = b; answer = Err r }) d ≡ stored second b ring d
   unfolding stored
   stored_refused r e = let w = is-refused a (store_verdict second b ring (length d)) h r e in rw (w.1, w.0)
 
-  pub store_is : a ≡ Accepted → StoreOk second b ring (length d)
-  store_is e = store_ok second b ring (length d) (ap is_accepted (is-accepted a (store_verdict second b ring (length d)) h e))
+  pub store_is : a ≡ Ok tt → StoreOk second b ring (length d)
+  store_is e = store_ok second b ring (length d) (ap is_accepted (is-accepted a (store_verdict second b ring (length d)) h tt e))
 
-  pub stored-accepted : a ≡ Accepted → (n at : ℕ) (d₁ d₂ : List ℕ) → n ≡ length_of second b → at ≡ head_size second → d₁ ≡ sets d 0 (front_of n second b) → length (encode widths (values n (kind_of second) b)) ≡ 148
-      → d₂ ≡ sets d₁ at (words (counted b ring)) → store.outcome (record { book = b; image = image.Length n }) d₂ ≡ stored second b ring d
+  pub stored-accepted : a ≡ Ok tt → (n at : ℕ) (d₁ d₂ : List ℕ) → n ≡ length_of second b → at ≡ head_size second → d₁ ≡ sets d 0 (front_of n second b) → length (encode widths (values n (kind_of second) b)) ≡ 148
+      → d₂ ≡ sets d₁ at (words (counted b ring)) → store.outcome (record { book = b; answer = Ok n }) d₂ ≡ stored second b ring d
   stored-accepted e n at d₁ d₂ m p f k g =
       let ok = store_is e in
       rw (ok_stored second b ring d ok, g, p, f, m, image-is second b ring d ok.book (rw m at k) ok.room)

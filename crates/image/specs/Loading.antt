@@ -8,7 +8,7 @@ use Rattle.pricing.specs.Holding.{is_energy, in_range}
 use Rattle.book.specs.declared.record.Book.{Book}
 use Rattle.book.specs.Record.{closed, markets_of, place_of, ring_size, verdict, is_accepted}
 use Rattle.book.specs.Validity.{valid}
-use Rattle.image.specs.declared.loading.Loaded.{Loaded}
+use Rattle.book.specs.declared.record.Reply.{Reply}
 use Rattle.head.specs.Counted.{market_count, count_at, how_many}
 use Rattle.head.specs.Layout.{widths, head_size, length_of, book_of, is_second, from_in, to_in, head_from}
 
@@ -104,7 +104,7 @@ pub record Outcome : Type 0 where
   pub book : Book
   pub ring : List ℤ
 
-abbrev pub outcome : Loaded → List ℤ → Outcome
+abbrev pub outcome : Reply Unit → List ℤ → Outcome
 outcome r ring = record { verdict = verdict r.answer; book = r.book; ring = ring }
 
 -- refused: "the closed book" and the ring as it was

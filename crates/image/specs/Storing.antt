@@ -1,16 +1,15 @@
 -- Storing a book as an image. Assumes nothing.
-use Rattle.std.specs.Prelude.{Bool, not, ◌&&◌, ◌||◌, List, ◌++◌, ℕ, ◌+◌, ◌*◌, ◌/◌, ◌%◌, ltb, eqb, ℤ, pos, length, get_or, drop}
+use Rattle.std.specs.Prelude.{Result, Ok, Err, Bool, not, ◌&&◌, ◌||◌, List, ◌++◌, ℕ, ◌+◌, ◌*◌, ◌/◌, ◌%◌, ltb, eqb, ℤ, pos, length, get_or, drop}
 use Rattle.std.specs.Int.Signed.{le_z}
 use Rattle.laws.specs.Base.{pick}
 use Rattle.laws.specs.Lists.{all_below, total}
 use Rattle.pricing.specs.Verdict.{Verdict, accepted, refused}
 use Rattle.pricing.specs.Holding.{is_energy, in_range}
 use Rattle.book.specs.declared.record.Book.{Book}
-use Rattle.book.specs.Record.{markets_of, place_of, ring_size, has_link, verdict_of, is_accepted}
+use Rattle.book.specs.Record.{markets_of, place_of, ring_size, has_link, verdict, is_accepted}
 use Rattle.book.specs.Validity.{valid}
-use Rattle.image.specs.declared.storing.Image.{Image}
-use Rattle.image.specs.declared.storing.Image.TheVariants.{Length, Refused}
-use Rattle.image.specs.declared.storing.Stored.{Stored}
+use Rattle.book.specs.declared.record.Reply.{Reply}
+use Rattle.book.specs.declared.record.Refusal.{Refusal}
 use Rattle.head.specs.Counted.{wrap, window_of, count_at, oldest_at, market_count}
 use Rattle.head.specs.Layout.{length_of, image_of}
 
@@ -49,17 +48,13 @@ pub record Outcome : Type 0 where
   pub book : Book
   pub buffer : List ℕ
 
--- the paper's number and value for each case: the image's length, or zero beside a refusal
-abbrev pub verdict : Image → Verdict
-verdict (Length n) = accepted
-verdict (Refused r) = verdict_of r
+-- the paper's value for each case: the image's length, or zero beside a refusal
+abbrev pub length_in : Result ℕ Refusal → ℕ
+length_in (Ok n) = n
+length_in (Err r) = 0
 
-abbrev pub length_in : Image → ℕ
-length_in (Length n) = n
-length_in (Refused r) = 0
-
-abbrev pub outcome : Stored → List ℕ → Outcome
-outcome s buffer = record { verdict = verdict s.image; length = length_in s.image; book = s.book; buffer = buffer }
+abbrev pub outcome : Reply ℕ → List ℕ → Outcome
+outcome s buffer = record { verdict = verdict s.answer; length = length_in s.answer; book = s.book; buffer = buffer }
 
 -- accepted: the image as the first bytes of the buffer, "Bytes after the image stay"; refused: nothing is written
 unfoldable pub stored : Bool → Book → List ℤ → List ℕ → Outcome

@@ -2,4 +2,5 @@
 #![tactic(auto)]
 
 pub mod loading;
+mod reading;
 pub mod storing;

@@ -10,7 +10,8 @@ use Rattle.laws.specs.Base.{pick}
 use Rattle.laws.specs.Bytes.{number_at}
 use Rattle.laws.proofs.Tests.{and_left, and_right, by-test}
 use Rattle.records.specs.declared.reading.Lengths.{Lengths}
-use Rattle.records.specs.Reading.{Room, size_at, kind_at, lengths_at, entry_size, entry_size_at, size_for, call_size, fits, answer_size, goes}
+use Rattle.records.specs.declared.reading.Room.{Room}
+use Rattle.records.specs.Reading.{size_at, kind_at, lengths_at, entry_size, entry_size_at, size_for, call_size, fits, answer_size, goes}
 
 module _ (m : Room) (l : Lengths) (t : fits m l ≡ true) where
   abbrev x₁ : Bool

@@ -11,7 +11,7 @@ use Rattle.laws.proofs.Lists.{length_run}
 use Rattle.laws.proofs.Bytes.{take-sets, drop-sets}
 use Rattle.book.specs.declared.record.Book.{Book}
 use Rattle.publishing.specs.Entry.{Entry, entry_of}
-use Rattle.entries.specs.declared.Entered.{Entered}
+use Rattle.book.specs.declared.record.Reply.{Reply}
 use Rattle.entries.specs.Entering.{Outcome, outcome, entered}
 use Rattle.records.specs.declared.reading.Lengths.{Lengths}
 use Rattle.records.specs.Reading.{lengths_at, entry_size, bytes_at, prices_from, marks_from, flows_from, factors_from, schedule_from, table_from, prices_at, marks_at, flows_at, factors_at, schedule_at, table_at, signed_at, entry_at, entry_number}
@@ -136,7 +136,7 @@ module _ (c : List ℕ) (at : ℕ) (l : Lengths) (e : l ≡ lengths_at c at) whe
 
     -- the outcome on the parts is the outcome of the record
     module _ (b : Book) (ring : List ℤ) (kind number : ℕ) (k : kind ≡ number_at c (at + 10) 1) (m : number ≡ entry_number c at) (table : List ℤ) (t : table ≡ table_at c at)
-        (r : Entered) (ring' table' : List ℤ) (o : outcome r ring' table' ≡ entered b (take l.ring ring) number (parts kind numbers factors) table) where
+        (r : Reply ℕ) (ring' table' : List ℤ) (o : outcome r ring' table' ≡ entered b (take l.ring ring) number (parts kind numbers factors) table) where
       parts-entered : outcome r ring' table' ≡ entered_at c at b ring
       parts-entered = o ∙ (λ i. entered b (take (e i).ring ring) (m i) (parts-entry kind k i) (t i))
 
@@ -151,7 +151,7 @@ module _ (c : List ℕ) (at : ℕ) (l : Lengths) (e : l ≡ lengths_at c at) whe
     pub ring-left : (ring' : List ℤ) → ring' ≡ (entered_at c at b ring).ring ++ drop l.ring ring → ring' ≡ (entered_at c at b ring).ring ++ drop (lengths_at c at).ring ring
     ring-left ring' q = q ∙ ap (λ (k : Lengths). (entered_at c at b ring).ring ++ drop k.ring ring) e
 
-    module _ (r : Entered) (table : List ℤ) (o : outcome r (entered_at c at b ring).ring table ≡ entered_at c at b ring) where
+    module _ (r : Reply ℕ) (table : List ℤ) (o : outcome r (entered_at c at b ring).ring table ≡ entered_at c at b ring) where
       pub book-left : r.book ≡ (entered_at c at b ring).book
       book-left = ap (λ (q : Outcome). q.book) o
 

@@ -2,7 +2,8 @@
 use Rattle.std.specs.Prelude.{false, List, ℕ, eqb, pos, replicate}
 use Rattle.laws.specs.Base.{pick}
 use Rattle.ledger.specs.Calls.{Call, entry, threshold, limits, report, restart}
-use Rattle.records.specs.Reading.{Room, kind_at, lengths_at, entry_at, entry_number, table_at}
+use Rattle.records.specs.declared.reading.Room.{Room}
+use Rattle.records.specs.Reading.{kind_at, lengths_at, entry_at, entry_number, table_at}
 use Rattle.playing.specs.Playing.{threshold_in, cap_in, floor_in, region_in, market_in}
 
 -- of rings and buffers P is fed the lengths alone, so that any contents do

@@ -13,7 +13,8 @@ use Rattle.book_calls.specs.Report as Report
 use Rattle.entries.specs.Entering as Entering
 use Rattle.image.specs.Storing as Storing
 use Rattle.image.specs.Loading as Loading
-use Rattle.records.specs.Reading.{Room, kind_at, lengths_at, entry_at, entry_number, signed_at, factors_at, table_at, call_size, answer_size, goes}
+use Rattle.records.specs.declared.reading.Room.{Room}
+use Rattle.records.specs.Reading.{kind_at, lengths_at, entry_at, entry_number, signed_at, factors_at, table_at, call_size, answer_size, goes}
 use Rattle.records.specs.Writing.{plain_record, entry_record, report_record}
 
 -- the book with its ring; the other ring, the image's buffer and the slices for an entry's contents; the next record's place,

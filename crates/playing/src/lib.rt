@@ -15,13 +15,13 @@ ghost use Rattle.records.specs.Writing.{plain_record, entry_record, report_recor
 ghost use Rattle.playing.specs.Playing.{state_of, playable, step, swaps, threshold_in, cap_in, floor_in, region_in, market_in};
 ghost use Rattle.playing.specs.Playing.{entered_at, entered_record, restart_verdict, swapped, restarted_book, reloaded};
 
-use book::record::{Answer, Book};
+use book::record::{Book, Reply};
 use book_calls::report::report;
 use book_calls::setting::{set_limits, set_threshold};
 use codec::{get, get_u8, get_u16, get_u32, get_word, signed64};
-use entries::{Entered, enter};
+use entries::{Entry, enter};
 use image::loading::load;
-use image::storing::{Image, store_kind_1};
+use image::storing::store_kind_1;
 use records::reading::{Lengths, lengths_at, read_entry};
 use records::writing::{put_answer, put_entered, put_reported};
 
@@ -39,8 +39,7 @@ fn play_threshold(book: Book, calls: &[u8], at: usize, answers: &mut [u8], out: 
         (plain_record 66 (set_threshold book (threshold_in calls.now at)).verdict) }
 {
     let changed = set_threshold(book, signed64(get(calls, at + 6, 8)));
-    let answer = changed.answer;
-    put_answer(answers, out, 14, 66, answer);
+    put_answer(answers, out, 14, 66, changed.answer);
     changed.book
 }
 
@@ -51,8 +50,7 @@ fn play_limits(book: Book, calls: &[u8], at: usize, answers: &mut [u8], out: usi
         (plain_record 67 (set_limits book (cap_in calls.now at) (floor_in calls.now at)).verdict) }
 {
     let changed = set_limits(book, get_word(calls, at + 6), get_word(calls, at + 10));
-    let answer = changed.answer;
-    put_answer(answers, out, 14, 67, answer);
+    put_answer(answers, out, 14, 67, changed.answer);
     changed.book
 }
 
@@ -63,8 +61,7 @@ fn play_report(book: Book, calls: &[u8], at: usize, answers: &mut [u8], out: usi
         (report_record (report_of book (region_in calls.now at) (market_in calls.now at))) }
 {
     let reported = report(book, get_u32(calls, at + 6), get_u32(calls, at + 10));
-    let reading = reported.reading;
-    put_reported(answers, out, reading);
+    put_reported(answers, out, reported.answer);
     reported.book
 }
 
@@ -78,7 +75,7 @@ fn enter_read(
     numbers: &[i32],
     factors: &[u32],
     table: &mut [i32],
-) -> Entered
+) -> Reply<u32>
     requires lengths_value { (lengths ≡ lengths_at calls.now at) × (at + entry_size lengths ≤ length calls.now)
         × (lengths.ring ≤ length ring.old) }
     requires schedule_in_bounds { (lengths.prices + lengths.flows + lengths.schedule ≤ length numbers.now)
@@ -100,18 +97,15 @@ fn enter_read(
     let used = lengths.factors;
     let places = lengths.ring;
     let part = &mut ring[..places];
-    enter(
-        book,
-        part,
-        number,
+    let entry = Entry {
         kind,
-        &numbers[..prices],
-        &calls[marks..marks_end],
-        &numbers[prices..flows_end],
-        &factors[..used],
-        &numbers[flows_end..schedule_end],
-        table,
-    )
+        prices: &numbers[..prices],
+        marked: &calls[marks..marks_end],
+        flows: &numbers[prices..flows_end],
+        factors: &factors[..used],
+        schedule: &numbers[flows_end..schedule_end],
+    };
+    enter(book, part, number, &entry, table)
 }
 
 // An entry: its contents are read into what is lent for them, and its table goes into the answer.
@@ -146,8 +140,7 @@ fn play_entry(
     let places = lengths.table;
     let part = &mut table[..places];
     let entered = enter_read(book, ring, calls, at, lengths, numbers, factors, part);
-    let publication = entered.publication;
-    put_entered(answers, out, publication, part);
+    put_entered(answers, out, entered.answer, part);
     entered.book
 }
 
@@ -173,17 +166,14 @@ fn play_load(
     let answer = loaded.answer;
     put_answer(answers, out, 14, 69, answer);
     match answer {
-        Answer::Refused(_) => Played {
+        Err(_) => Played {
             book,
             swapped: false,
         },
-        Answer::Accepted => {
-            let after = loaded.book;
-            Played {
-                book: after,
-                swapped: true,
-            }
-        }
+        Ok(()) => Played {
+            book: loaded.book,
+            swapped: true,
+        },
     }
 }
 
@@ -207,20 +197,20 @@ fn play_restart(
         (plain_record 69 (restart_verdict (Storing.stored false book ring.now image.old) other.old)) }
 {
     let stored = store_kind_1(book, ring, image);
-    let size = stored.image;
+    let size = stored.answer;
     match size {
-        Image::Refused(refusal) => {
-            put_answer(answers, out, 14, 69, Answer::Refused(refusal));
+        Err(_) => {
+            put_answer(answers, out, 14, 69, size);
             Played {
                 book,
                 swapped: false,
             }
         }
-        Image::Length(n) => play_load(book, other, image, n, answers, out),
+        Ok(n) => play_load(book, other, image, n, answers, out),
     }
 }
 
-// The call at a place, by its kind.
+// The call at a place, by its kind, a number as in docs/RECORDS.md.
 pub fn play_call(
     book: Book,
     ring: &mut [i32],
@@ -246,34 +236,23 @@ pub fn play_call(
         factors.new table.new (at + call_size calls.now at) (out + answer_size calls.now at)
         answers.new ≡ step calls.now before }
 {
-    let kind = get_u16(calls, at + 4);
-    if kind == 65 {
-        let after = play_entry(book, ring, numbers, factors, table, calls, at, answers, out);
-        return Played {
-            book: after,
+    match get_u16(calls, at + 4) {
+        65 => Played {
+            book: play_entry(book, ring, numbers, factors, table, calls, at, answers, out),
             swapped: false,
-        };
-    }
-    if kind == 66 {
-        let after = play_threshold(book, calls, at, answers, out);
-        return Played {
-            book: after,
+        },
+        66 => Played {
+            book: play_threshold(book, calls, at, answers, out),
             swapped: false,
-        };
-    }
-    if kind == 67 {
-        let after = play_limits(book, calls, at, answers, out);
-        return Played {
-            book: after,
+        },
+        67 => Played {
+            book: play_limits(book, calls, at, answers, out),
             swapped: false,
-        };
-    }
-    if kind == 68 {
-        let after = play_report(book, calls, at, answers, out);
-        return Played {
-            book: after,
+        },
+        68 => Played {
+            book: play_report(book, calls, at, answers, out),
             swapped: false,
-        };
+        },
+        _ => play_restart(book, ring, other, image, answers, out),
     }
-    play_restart(book, ring, other, image, answers, out)
 }

@@ -10,7 +10,8 @@ use lib.ListN.{length, get_or}
 use lib.Seq.{sets}
 use mir.Syntax.{w32, w64}
 use mir.Val.{to_z}
-use borrow.Author.Tests.{lt-ltb, le-ltb, le-leb, lt-leb, eq-eqb, ne_eqb, eqb-true, ltb-true, ltb-false}
+use borrow.Author.Tests.{lt-ltb, le-ltb, le-leb, lt-leb, eq-eqb, ne_eqb, eqb-true, eqb-false, leb-true, ltb-true, ltb-false}
+use Rattle.std.specs.Prelude.{Some, None}
 use Rattle.laws.specs.Base.{pick}
 use Rattle.laws.specs.Lists.{tabulate}
 use Rattle.laws.specs.Bytes.{number_at, price_at}
@@ -19,7 +20,28 @@ use Rattle.laws.proofs.Lists.{length_run}
 use Rattle.laws.proofs.Bytes.{number-below, sets-append}
 use Rattle.book.specs.declared.record.Settings.{Settings}
 use Rattle.records.specs.declared.reading.Lengths.{Lengths}
-use Rattle.records.specs.Reading.{size_at, kind_at, opening_size, parent_at, settings_in, opens, lengths_at, entry_size, entry_size_at, size_for, call_size, Room, fits, answer_size, goes, words_at, numbers_at, prices_from, flows_from, factors_from, schedule_from, table_from, signed_at, factors_at, table_at}
+use Rattle.records.specs.declared.reading.Room.{Room}
+use Rattle.records.specs.Reading.{size_at, kind_at, opening_size, parent_at, settings_in, opens, lengths_at, entry_size, entry_size_at, size_for, call_size, fits, answer_size, goes, words_at, numbers_at, prices_from, flows_from, factors_from, schedule_from, table_from, signed_at, factors_at, table_at}
+use Rattle.records.specs.declared.reading.Sizes.{Sizes}
+use Rattle.records.specs.Working.{some_size, sizes_at, next_call}
+
+-- ---- a size as an Option
+pub sized : (n m : ℕ) → n ≡ m → 0 < n → Some n ≡ some_size m
+sized n m e h = let z : n ≡ 0 → ⊥ = λ q. omega arith in rw (← e, ne_eqb n 0 z)
+
+pub size-some : (n k : ℕ) → some_size n ≡ Some k → (k ≡ n) × (0 < k)
+size-some n k = by (eqb n 0) refl
+  where
+    by : (t : Bool) → eqb n 0 ≡ t → pick t None (Some n) ≡ Some k → (k ≡ n) × (0 < k)
+    by true e h = cc
+    by false e h = let q : n ≡ k = cc in (sym q, omega (arith, eqb-false n 0 e))
+
+pub size-none : (n : ℕ) → some_size n ≡ None → n ≡ 0
+size-none n = by (eqb n 0) refl
+  where
+    by : (t : Bool) → eqb n 0 ≡ t → pick t None (Some n) ≡ None → n ≡ 0
+    by true e h = eqb-true n 0 e
+    by false e h = cc
 
 -- ---- records made field by field
 pub settings-are : (c : List ℕ) (s : Settings) → s.regions ≡ number_at c 6 1 → s.services ≡ number_at c 7 1 → s.window ≡ number_at c 8 2 → s.halves ≡ number_at c 10 1
@@ -62,37 +84,54 @@ module _ (c : List ℕ) (at : ℕ) where
     unfolding size_for
     for-entry k n e = rw (eq-eqb kind 65 k) e
 
-    module _ (k : kind ≡ 65 → ⊥) where
-      pub for-three : (leb 66 kind && leb kind 68) ≡ true → 14 ≡ size_for c at kind
-      unfolding size_for
-      for-three t = rw (ne_eqb kind 65 k, t)
+    pub for-three : 66 ≤ kind → kind ≤ 68 → 14 ≡ size_for c at kind
+    unfolding size_for
+    for-three a b = let k : kind ≡ 65 → ⊥ = λ e. omega arith in rw (ne_eqb kind 65 k, le-leb 66 kind a, le-leb kind 68 b)
 
-      pub for-restart : (leb 66 kind && leb kind 68) ≡ false → kind ≡ 69 → 6 ≡ size_for c at kind
-      unfolding size_for
-      for-restart t r = rw (ne_eqb kind 65 k, t, eq-eqb kind 69 r)
+    -- neither of the three nor an entry
+    module _ (k : kind ≡ 65 → ⊥) (h : 66 ≤ kind → kind ≤ 68 → ⊥) where
+      outside : (leb 66 kind && leb kind 68) ≡ false
+      outside =
+          by-test (leb 66 kind) (λ a. by-test (leb kind 68) (λ b. absurd (h (leb-true 66 kind a) (leb-true kind 68 b))) (λ b. rw (a, b) refl)) (λ a. rw a refl)
 
-      pub for-none : (leb 66 kind && leb kind 68) ≡ false → (kind ≡ 69 → ⊥) → 0 ≡ size_for c at kind
+      pub for-restart : kind ≡ 69 → 6 ≡ size_for c at kind
       unfolding size_for
-      for-none t r = rw (ne_eqb kind 65 k, t, ne_eqb kind 69 r)
+      for-restart r = rw (ne_eqb kind 65 k, outside, eq-eqb kind 69 r)
+
+      pub for-none : (kind ≡ 69 → ⊥) → 0 ≡ size_for c at kind
+      unfolding size_for
+      for-none r = rw (ne_eqb kind 65 k, outside, ne_eqb kind 69 r)
 
   -- ---- the length of a whole record
-  pub call-short : length c - at < 6 → 0 ≡ call_size c at
+  call-tests : pick (ltb (length c - at) 6) 0 (pick (ltb (length c - at) (size_at c at)) 0 (pick (eqb (size_at c at) (size_for c at (kind_at c at))) (size_at c at) 0)) ≡ call_size c at
   unfolding call_size
-  call-short h = rw (lt-ltb (length c - at) 6 h)
+  call-tests = refl
+
+  pub call-short : length c - at < 6 → 0 ≡ call_size c at
+  call-short h = (rw (lt-ltb (length c - at) 6 h) refl) ∙ call-tests
 
   module _ (h : 6 ≤ length c - at) where
     pub call-cut : length c - at < size_at c at → 0 ≡ call_size c at
-    unfolding call_size
-    call-cut l = rw (le-ltb (length c - at) 6 h, lt-ltb (length c - at) (size_at c at) l)
+    call-cut l = (rw (le-ltb (length c - at) 6 h, lt-ltb (length c - at) (size_at c at) l) refl) ∙ call-tests
 
     module _ (l : size_at c at ≤ length c - at) where
       pub call-whole : size_at c at ≡ size_for c at (kind_at c at) → size_at c at ≡ call_size c at
-      unfolding call_size
-      call-whole e = rw (le-ltb (length c - at) 6 h, le-ltb (length c - at) (size_at c at) l, eq-eqb (size_at c at) (size_for c at (kind_at c at)) e)
+      call-whole e =
+          (rw (le-ltb (length c - at) 6 h, le-ltb (length c - at) (size_at c at) l, eq-eqb (size_at c at) (size_for c at (kind_at c at)) e) refl) ∙ call-tests
 
       pub call-other : (size_at c at ≡ size_for c at (kind_at c at) → ⊥) → 0 ≡ call_size c at
-      unfolding call_size
-      call-other e = rw (le-ltb (length c - at) 6 h, le-ltb (length c - at) (size_at c at) l, ne_eqb (size_at c at) (size_for c at (kind_at c at)) e)
+      call-other e =
+          (rw (le-ltb (length c - at) 6 h, le-ltb (length c - at) (size_at c at) l, ne_eqb (size_at c at) (size_for c at (kind_at c at)) e) refl) ∙ call-tests
+
+  -- of an unknown kind
+  pub call-unknown : size_for c at (kind_at c at) ≡ 0 → 0 ≡ call_size c at
+  unfolding call_size
+  call-unknown z = sym (rw z (nothing (ltb (length c - at) 6) (ltb (length c - at) (size_at c at)) (size_at c at)))
+    where
+      nothing : (a b : Bool) (n : ℕ) → pick a 0 (pick b 0 (pick (eqb n 0) n 0)) ≡ 0
+      nothing true b n = refl
+      nothing false true n = refl
+      nothing false false n = by-test (eqb n 0) (λ e. rw e (eqb-true n 0 e)) (λ e. rw e)
 
   -- where a whole record stands, so many bytes are left
   module _ (h : call_size c at ≡ 0 → ⊥) where
@@ -101,16 +140,10 @@ module _ (c : List ℕ) (at : ℕ) where
     call-six = by-test (ltb (length c - at) 6) (λ e. absurd (h (rw e))) (ltb-false _ _)
 
     pub call-forty : kind_at c at ≡ 65 → 40 ≤ length c - at
-    unfolding call_size
     call-forty k =
         by-test (ltb (length c - at) 40)
-        (λ e. absurd (h (rw (sym (for-entry (kind_at c at) k 0 (entry-short (ltb-true _ _ e)))) (nothing (ltb (length c - at) 6) (ltb (length c - at) (size_at c at)) (size_at c at)))))
+        (λ e. absurd (h (sym (call-unknown (sym (for-entry (kind_at c at) k 0 (entry-short (ltb-true _ _ e))))))))
         (ltb-false _ _)
-      where
-        nothing : (a b : Bool) (n : ℕ) → pick a 0 (pick b 0 (pick (eqb n 0) n 0)) ≡ 0
-        nothing true b n = refl
-        nothing false true n = refl
-        nothing false false n = by-test (eqb n 0) (λ e. rw e (eqb-true n 0 e)) (λ e. rw e)
 
   -- ---- the length of an answer
   pub answer-entry : kind_at c at ≡ 65 → (n : ℕ) → n ≡ number_at c (at + 32) 4 → 18 + 4 * n ≡ answer_size c at
@@ -143,6 +176,33 @@ module _ (c : List ℕ) (at : ℕ) where
       pub goes_other : (kind_at c at ≡ 65 → ⊥) → leb (answer_size c at) left ≡ goes m c at left
       unfolding goes
       goes_other k = rw (ne_eqb (call_size c at) 0 h, ne_eqb (kind_at c at) 65 k)
+
+    -- its sizes, if it is played
+    pub next-unplayed : false ≡ goes m c at left → None ≡ next_call m c at left
+    next-unplayed e = rw (← e) refl
+
+    module _ (answer : ℕ) (a : answer ≡ answer_size c at) (t : leb (answer_size c at) left ≡ goes m c at left) where
+      pub next-roomless : left < answer → None ≡ next_call m c at left
+      next-roomless h = next-unplayed (sym (lt-leb (answer_size c at) left (omega arith)) ∙ t)
+
+      pub next-played : answer ≤ left → (call : ℕ) → call ≡ call_size c at → Some (record { call = call; answer = answer }) ≡ next_call m c at left
+      next-played h call e = let r : leb (answer_size c at) left ≡ true = le-leb (answer_size c at) left (omega arith) in rw (← t, r, e, a)
+
+    pub next-some : (k : Sizes) → next_call m c at left ≡ Some k → (goes m c at left ≡ true) × (k.call ≡ call_size c at) × (k.answer ≡ answer_size c at)
+    next-some k = by (goes m c at left) refl
+      where
+        by : (t : Bool) → goes m c at left ≡ t → pick t (Some (sizes_at c at)) None ≡ Some k
+            → (goes m c at left ≡ true) × (k.call ≡ call_size c at) × (k.answer ≡ answer_size c at)
+        by true e h =
+            let q : sizes_at c at ≡ k = cc in (e, ap (λ (x : Sizes). x.call) (sym q), ap (λ (x : Sizes). x.answer) (sym q))
+        by false e h = cc
+
+    pub next-none : next_call m c at left ≡ None → goes m c at left ≡ false
+    next-none = by (goes m c at left) refl
+      where
+        by : (t : Bool) → goes m c at left ≡ t → pick t (Some (sizes_at c at)) None ≡ None → goes m c at left ≡ false
+        by true e h = cc
+        by false e h = e
 
   -- ---- the lengths in an entry's record are below 2 ^ 32
   pub lengths-small : ((i : ℕ) → get_or c i 0 < 256) → at + 40 ≤ length c → (l : Lengths) → l ≡ lengths_at c at

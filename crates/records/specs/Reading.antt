@@ -8,6 +8,7 @@ use Rattle.laws.specs.Bytes.{number_at, price_at}
 use Rattle.book.specs.declared.record.Settings.{Settings}
 use Rattle.publishing.specs.Entry.{Entry, entry_of}
 use Rattle.records.specs.declared.reading.Lengths.{Lengths}
+use Rattle.records.specs.declared.reading.Room.{Room}
 
 -- ---- numbers in bytes: so many signed ones, unsigned ones and single bytes from a place
 abbrev pub words_at : List ℕ → ℕ → ℕ → List ℤ
@@ -136,13 +137,7 @@ call_size c at =
     (pick (ltb (length c - at) (size_at c at)) 0
     (pick (eqb (size_at c at) (size_for c at (kind_at c at))) (size_at c at) 0))
 
--- ---- the room that a replay is lent: how long the book's ring and the slices for an entry's contents are
-pub record Room : Type 0 where
-  pub ring : ℕ
-  pub numbers : ℕ
-  pub factors : ℕ
-  pub table : ℕ
-
+-- ---- what fits the room that a replay is lent
 -- an entry's contents and ring fit
 abbrev pub fits : Room → Lengths → Bool
 fits m l =

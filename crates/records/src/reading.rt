@@ -2,10 +2,11 @@
 ghost use Rattle.std.specs.Prelude.{◌≡◌, true, ◌+◌, ◌-◌, ◌*◌, ◌≤◌, eqb, length};
 ghost use Rattle.std.proofs.lemmas.List.Edits.{sets};
 ghost use Rattle.laws.specs.Lists.{tabulate};
-ghost use Rattle.records.specs.Reading.{words_at, numbers_at, kind_at, opening_size, parent_at, settings_in, opens, lengths_at, entry_size, signed_at, factors_at, table_at, entry_size_at, size_for, call_size, fits, answer_size, goes};
+ghost use Rattle.records.specs.Reading.{words_at, numbers_at, kind_at, opening_size, parent_at, settings_in, opens, lengths_at, entry_size, signed_at, factors_at, table_at, entry_size_at, size_for, call_size, fits, answer_size};
+ghost use Rattle.records.specs.Working.{some_size, next_call};
 
 use book::record::Settings;
-use codec::{get, get_eight, get_numbers, get_u8, get_u16, get_u32, get_word, get_words, signed64};
+use codec::{get, get_array, get_u8, get_u16, get_u32, get_word, get_words, signed64};
 
 // How many numbers each slice of an entry's record holds, and the length of the ring that it is lent.
 #[derive(Clone, Copy)]
@@ -17,6 +18,22 @@ pub struct Lengths {
     pub schedule: usize,
     pub table: usize,
     pub ring: usize,
+}
+
+// The room that a replay is lent: how long the book's ring and the slices for an entry's contents are.
+#[derive(Clone, Copy)]
+pub struct Room {
+    pub ring: usize,
+    pub numbers: usize,
+    pub factors: usize,
+    pub table: usize,
+}
+
+// How long the record of a call that is played is, and how long that of its answer.
+#[derive(Clone, Copy)]
+pub struct Sizes {
+    pub call: usize,
+    pub answer: usize,
 }
 
 // Whether an opening's whole record stands first.
@@ -34,7 +51,7 @@ pub fn settings_in(bytes: &[u8]) -> Settings
     requires { opening_size ≤ length bytes.now }
     ensures { result ≡ settings_in bytes.now }
 {
-    let parents = get_eight(bytes, 14);
+    let parents = get_array(bytes, 14);
     Settings {
         regions: get_u8(bytes, 6),
         services: get_u8(bytes, 7),
@@ -76,105 +93,93 @@ fn entry_size(lengths: Lengths) -> usize
     before + links + 4 * lengths.schedule + 4 * lengths.table
 }
 
-// The length of an entry's record by the lengths that it says, or 0.
-fn entry_size_at(bytes: &[u8], at: usize) -> usize
+// The length of an entry's record by the lengths that it says, where they stand and its zero byte is zero.
+fn entry_size_at(bytes: &[u8], at: usize) -> Option<usize>
     requires { at ≤ length bytes.now }
-    ensures { result ≡ entry_size_at bytes.now at }
+    ensures { result ≡ some_size (entry_size_at bytes.now at) }
 {
     if bytes.len() - at < 40 {
-        return 0;
+        return None;
     }
     if get_u8(bytes, at + 11) != 0 {
-        return 0;
+        return None;
     }
     let lengths = lengths_at(bytes, at);
-    entry_size(lengths)
+    Some(entry_size(lengths))
 }
 
-// The length of a call's record of a kind, or 0.
-fn size_for(bytes: &[u8], at: usize, kind: u16) -> usize
+// The length of a call's record of a kind. Kept: kinds are the numbers of docs/RECORDS.md, which `size_for` compares.
+fn size_for(bytes: &[u8], at: usize, kind: u16) -> Option<usize>
     requires { at ≤ length bytes.now }
-    ensures { result ≡ size_for bytes.now at kind }
+    ensures { result ≡ some_size (size_for bytes.now at kind) }
 {
-    if kind == 65 {
-        return entry_size_at(bytes, at);
+    match kind {
+        65 => entry_size_at(bytes, at),
+        66..=68 => Some(14),
+        69 => Some(6),
+        _ => None,
     }
-    if (66 <= kind) & (kind <= 68) {
-        return 14;
-    }
-    if kind == 69 {
-        return 6;
-    }
-    0
 }
 
-// The length of the whole record of a call at a place, or 0.
-pub fn call_size(bytes: &[u8], at: usize) -> usize
+// The length of the record of a call at a place, where it stands whole.
+fn call_size(bytes: &[u8], at: usize) -> Option<usize>
     requires { at ≤ length bytes.now }
-    ensures { result ≡ call_size bytes.now at }
+    ensures { result ≡ some_size (call_size bytes.now at) }
 {
     let left = bytes.len() - at;
     if left < 6 {
-        return 0;
+        return None;
     }
     let size = get_u32(bytes, at) as usize;
     if left < size {
-        return 0;
+        return None;
     }
-    if size == size_for(bytes, at, get_u16(bytes, at + 4)) {
-        return size;
+    if size_for(bytes, at, get_u16(bytes, at + 4))? != size {
+        return None;
     }
-    0
+    Some(size)
 }
 
 // Whether an entry's contents and ring fit what is lent for them.
-fn fits(lengths: Lengths, ring: usize, numbers: usize, factors: usize, table: usize) -> bool
+fn fits(lengths: Lengths, room: Room) -> bool
     requires { (lengths.prices ≤ 4294967295) × (lengths.flows ≤ 4294967295) × (lengths.schedule ≤ 4294967295) }
-    ensures { result ≡ fits (record { ring = ring; numbers = numbers; factors = factors; table = table }) lengths }
+    ensures { result ≡ fits room lengths }
 {
-    (lengths.prices + lengths.flows + lengths.schedule <= numbers)
-        & ((lengths.factors <= factors) & ((lengths.table <= table) & (lengths.ring <= ring)))
+    (lengths.prices + lengths.flows + lengths.schedule <= room.numbers)
+        & ((lengths.factors <= room.factors)
+            & ((lengths.table <= room.table) & (lengths.ring <= room.ring)))
 }
 
 // How many bytes the answer to the call at a place takes.
-pub fn answer_size(bytes: &[u8], at: usize) -> usize
+fn answer_size(bytes: &[u8], at: usize) -> usize
     requires { (at ≤ length bytes.now) × (6 ≤ length bytes.now - at) × (eqb (kind_at bytes.now at) 65 ≡ true → at + 40 ≤ length bytes.now) }
     ensures { result ≡ answer_size bytes.now at }
 {
-    let kind = get_u16(bytes, at + 4);
-    if kind == 65 {
-        return 18 + 4 * get_u32(bytes, at + 32) as usize;
+    match get_u16(bytes, at + 4) {
+        65 => 18 + 4 * get_u32(bytes, at + 32) as usize,
+        68 => 34,
+        _ => 14,
     }
-    if kind == 68 {
-        return 34;
-    }
-    14
 }
 
-// Whether the call at a place is played: its record stands whole, its contents fit what is lent for them, and its answer fits
-// the `left` bytes of the answers' buffer.
-pub fn goes(
-    bytes: &[u8],
-    at: usize,
-    left: usize,
-    ring: usize,
-    numbers: usize,
-    factors: usize,
-    table: usize,
-) -> bool
+// The sizes of the call at a place, if it is played: its record stands whole, its contents fit what is lent for them, and its
+// answer fits the `left` bytes of the answers' buffer.
+pub fn next_call(bytes: &[u8], at: usize, left: usize, room: Room) -> Option<Sizes>
     requires { at ≤ length bytes.now }
-    ensures { result ≡ goes (record { ring = ring; numbers = numbers; factors = factors; table = table }) bytes.now at left }
+    ensures { result ≡ next_call room bytes.now at left }
 {
-    if call_size(bytes, at) == 0 {
-        return false;
-    }
+    let call = call_size(bytes, at)?;
     if get_u16(bytes, at + 4) == 65 {
         let lengths = lengths_at(bytes, at);
-        if !fits(lengths, ring, numbers, factors, table) {
-            return false;
+        if !fits(lengths, room) {
+            return None;
         }
     }
-    answer_size(bytes, at) <= left
+    let answer = answer_size(bytes, at);
+    if left < answer {
+        return None;
+    }
+    Some(Sizes { call, answer })
 }
 
 // The contents of an entry's record but its marks, which are read where they stand: prices, flows and schedule one after
@@ -203,6 +208,6 @@ pub fn read_entry(
     get_words(bytes, at + 40, prices, numbers, 0);
     get_words(bytes, at + flows_from, flows, numbers, prices);
     get_words(bytes, at + schedule_from, schedule, numbers, prices + flows);
-    get_numbers(bytes, at + factors_from, lengths.factors, factors, 0);
+    get_words(bytes, at + factors_from, lengths.factors, factors, 0);
     get_words(bytes, at + table_from, lengths.table, table, 0);
 }

@@ -2,16 +2,17 @@
 use mathlib.Core.Path.{◌≡◌, refl, ap, ◌∙◌}
 use mathlib.Core.Bool.{Bool, true, false, ◌&&◌}
 use mathlib.Core.List.{List, [], ◌++◌}
-use Prim.Native.Nat.{ℕ, ◌≤◌, ◌<◌}
-use borrow.Author.Tests.{leb-true, le-leb, lt-leb}
+use Prim.Native.Nat.{ℕ, ◌≤◌, ◌<◌, min}
+use native.Mathlib.Omega.{arith}
+use borrow.Author.Tests.{leb-true, leb-false, le-leb, lt-leb}
 use lib.Dec.{leb}
 use lib.IntN.{ℤ}
 use lib.ListN.{length, take, drop}
 use lib.Seq.{sets}
 use Rattle.laws.specs.Bytes.{number_at}
-use Rattle.laws.proofs.Tests.{and_left}
+use Rattle.laws.proofs.Tests.{and_left, by-test}
 use Rattle.book.specs.declared.record.Settings.{Settings}
-use Rattle.book_calls.specs.declared.opening.Opened.{Opened}
+use Rattle.book.specs.declared.record.Reply.{Reply}
 use Rattle.book.specs.Record.{ring_size, verdict}
 use Rattle.book_calls.specs.Opening as Opening
 use Rattle.records.specs.Reading.{settings_in, opens}
@@ -24,7 +25,7 @@ use Rattle.replay.proofs.Promises.{part_room, promise}
 use Rattle.replay.proofs.Within.{written-within}
 
 -- ---- the state after the opening
-pub opening : (c : List ℕ) (m : Lent) (settings : Settings) (r : Opened) (ring : List ℤ) (answers : List ℕ) → settings ≡ settings_in c
+pub opening : (c : List ℕ) (m : Lent) (settings : Settings) (r : Reply Unit) (ring : List ℤ) (answers : List ℕ) → settings ≡ settings_in c
     → Opening.outcome r ring ≡ Opening.opened settings m.ring → answers ≡ sets m.answers 0 (plain_record 64 (verdict r.answer))
     → state_of false r.book ring m.other m.image m.numbers m.factors m.table 38 14 answers ≡ begins c m
 opening c m settings r ring answers s o a =
@@ -106,6 +107,10 @@ module _ (c : List ℕ) where
   pub part-is : (r s w size n room : ℕ) → r ≡ number_at c 6 1 → s ≡ number_at c 7 1 → w ≡ number_at c 8 2 → size ≡ ring_size r s w → n ≡ part_of size room → n ≡ part_of (size_in c) room
   part-is r s w size n room a b d e p =
       let z : size ≡ size_in c = e ∙ (λ i. ring_size (a i) (b i) (d i)) in p ∙ ap (λ (x : ℕ). part_of x room) z
+
+-- the smaller of the two
+pub part-min : (size room n : ℕ) → n ≡ min size room → n ≡ part_of size room
+part-min size room n e = e ∙ by-test (leb size room) (λ t. rw t (omega (arith, leb-true size room t))) (λ t. rw t (omega (arith, leb-false size room t)))
 
 pub part-most : (size room n : ℕ) → n ≡ part_of size room → n ≤ room
 part-most size room n e = rw e (part_room size room)

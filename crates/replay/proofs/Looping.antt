@@ -10,7 +10,12 @@ use lib.IntN.{ℤ}
 use lib.ListN.{length}
 use Rattle.laws.specs.Base.{pick}
 use Rattle.book.specs.declared.record.Book.{Book}
-use Rattle.records.specs.Reading.{Room, kind_at, call_size, answer_size, goes}
+use Rattle.records.specs.declared.reading.Room.{Room}
+use Rattle.std.specs.Prelude.{Option, Some, None}
+use Rattle.records.specs.declared.reading.Sizes.{Sizes}
+use Rattle.records.specs.Reading.{kind_at, call_size, answer_size, goes}
+use Rattle.records.specs.Working.{next_call}
+use Rattle.records.proofs.Readings.{next-some, next-none}
 use Rattle.playing.specs.Playing.{State, state_of, room_of, playable, step, swaps}
 use Rattle.replay.specs.Replay.{runs, turn, turns, Outcome, left, finished, outcome}
 use Rattle.playing.proofs.Goes.{goes-whole, goes-room, entry_whole}
@@ -58,12 +63,17 @@ pub room_by : (t : Bool) (a b : List ℤ) (p : ℕ) → p ≡ pick t (length a) 
 room_by true a b p e = e
 room_by false a b p e = e
 
-pub plays : (c : List ℕ) (s : State) (p : ℕ) (r : Bool) → p ≡ length s.ring
-    → r ≡ goes (record { ring = p; numbers = length s.numbers; factors = length s.factors; table = length s.table }) c s.at (length s.answers - s.out)
-    → playable c s ≡ r
-plays c s p r e g =
-    ap (λ (i : ℕ). goes (record { ring = i; numbers = length s.numbers; factors = length s.factors; table = length s.table }) c s.at (length s.answers - s.out)) (sym e)
-    ∙ sym g
+module _ (c : List ℕ) (s : State) (p : ℕ) (r : Option Sizes) (e : p ≡ length s.ring)
+    (g : r ≡ next_call (record { ring = p; numbers = length s.numbers; factors = length s.factors; table = length s.table }) c s.at (length s.answers - s.out)) where
+  next-is : r ≡ next_call (room_of s) c s.at (length s.answers - s.out)
+  next-is =
+      g ∙ ap (λ (i : ℕ). next_call (record { ring = i; numbers = length s.numbers; factors = length s.factors; table = length s.table }) c s.at (length s.answers - s.out)) e
+
+  pub plays : (k : Sizes) → r ≡ Some k → (playable c s ≡ true) × (k.call ≡ call_size c s.at) × (k.answer ≡ answer_size c s.at)
+  plays k h = next-some c s.at (room_of s) (length s.answers - s.out) k (sym next-is ∙ h)
+
+  pub stops : r ≡ None → playable c s ≡ false
+  stops h = next-none c s.at (room_of s) (length s.answers - s.out) (sym next-is ∙ h)
 
 -- ---- what is had at the loop's head: so many calls from here come to all calls from the start
 pub record Held (c : List ℕ) (s₀ : State) (t : Bool) (s : State) : Type 0 where

@@ -9,7 +9,8 @@ use lib.Seq.{sets, length-sets}
 use Rattle.laws.proofs.Tests.{by-test}
 use Rattle.laws.proofs.Bytes.{sets-append}
 use Rattle.ledger.specs.Calls.{Call, Step, answers}
-use Rattle.records.specs.Reading.{Room, call_size, answer_size, goes}
+use Rattle.records.specs.declared.reading.Room.{Room}
+use Rattle.records.specs.Reading.{call_size, answer_size, goes}
 use Rattle.playing.specs.Playing.{State, room_of, playable, step}
 use Rattle.replay.specs.Replay.{runs}
 use Rattle.replay.proofs.Looping.{runs-next, runs-stop}

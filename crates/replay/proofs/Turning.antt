@@ -1,6 +1,6 @@
 -- A call on the rings where they lie, changed or not. Assumes nothing.
 use mathlib.Core.Path.{◌≡◌, refl, sym, ◌∙◌, subst}
-use mathlib.Core.Bool.{Bool, true, false}
+use mathlib.Core.Bool.{Bool, true, false, not, beq}
 use mathlib.Core.List.{List}
 use Prim.Native.Nat.{ℕ}
 use lib.IntN.{ℤ}
@@ -8,6 +8,13 @@ use Rattle.laws.specs.Base.{pick}
 use Rattle.book.specs.declared.record.Book.{Book}
 use Rattle.playing.specs.Playing.{State, state_of, playable, step, swaps}
 use Rattle.replay.specs.Replay.{turn}
+
+-- changed or not, and once more or not
+pub turn-is : (t x : Bool) → not (beq t x) ≡ turn t x
+turn-is true true = refl
+turn-is true false = refl
+turn-is false true = refl
+turn-is false false = refl
 
 -- rings that changed places, and change them again or not
 arranged : (t x : Bool) (b : Book) (ring other : List ℤ) (image : List ℕ) (numbers : List ℤ) (factors : List ℕ) (table : List ℤ) (at out : ℕ) (answers : List ℕ)

@@ -13,7 +13,7 @@ use book::record::{Book, ring_size};
 use book_calls::opening::open;
 use codec::{get_u8, get_u16};
 use playing::{Played, play_call};
-use records::reading::{answer_size, call_size, goes, opens, settings_in};
+use records::reading::{Room, next_call, opens, settings_in};
 use records::writing::put_answer;
 
 // A call on the rings where they lie: `turned` says that they have changed places.
@@ -81,25 +81,26 @@ fn play_calls(
     let mut turned = false;
     let mut at: usize = 38;
     let mut out: usize = 14;
-    while goes(
+    // Kept: no index is counted, each call says how long it and its answer are.
+    while let Some(next) = next_call(
         calls,
         at,
         answers.len() - out,
-        picked(turned, other.len(), ring.len()),
-        numbers.len(),
-        factors.len(),
-        table.len(),
+        Room {
+            ring: picked(turned, other.len(), ring.len()),
+            numbers: numbers.len(),
+            factors: factors.len(),
+            table: table.len(),
+        },
     ) {
-        let size = call_size(calls, at);
-        let answer = answer_size(calls, at);
         let played = play_turned(
             turned, book, ring, other, image, numbers, factors, table, calls, at, answers, out,
         );
         let after = played.book;
         book = after;
-        turned = (turned & !played.swapped) | (!turned & played.swapped);
-        at += size;
-        out += answer;
+        turned = turned != played.swapped;
+        at += next.call;
+        out += next.answer;
     }
     out
 }
@@ -122,11 +123,17 @@ fn play_opening(
         factors.new table.new ≡ finished calls.now (begins calls.now lent) [] [] }
 {
     let opened = open(settings_in(calls), ring);
-    let answer = opened.answer;
-    let book = opened.book;
-    put_answer(answers, 0, 14, 64, answer);
+    put_answer(answers, 0, 14, 64, opened.answer);
     play_calls(
-        book, ring, other, image, numbers, factors, table, calls, answers,
+        opened.book,
+        ring,
+        other,
+        image,
+        numbers,
+        factors,
+        table,
+        calls,
+        answers,
     )
 }
 
@@ -161,8 +168,8 @@ pub fn replay(
         return 0;
     }
     let size = ring_size(get_u8(calls, 6), get_u8(calls, 7), get_u16(calls, 8));
-    let mine = picked(size <= ring.len(), size, ring.len());
-    let spare = picked(size <= other.len(), size, other.len());
+    let mine = size.min(ring.len());
+    let spare = size.min(other.len());
     play_opening(
         &mut ring[..mine],
         &mut other[..spare],

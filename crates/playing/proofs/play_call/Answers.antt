@@ -1,83 +1,81 @@
 -- `playing::play_call` meets its contract: each kind of call by its own function. Assumes nothing.
 use mathlib.Core.Path.{◌≡◌, sym, ◌∙◌}
-use Prim.Native.Nat.{◌+◌}
-use Rattle.laws.specs.Bytes.{number_at}
+use native.Mathlib.Omega.{arith}
+use Rattle.records.specs.Reading.{kind_at}
 use Rattle.playing.proofs.Calling.{head-asks, entry-asks, threshold-asks, limits-asks, report-asks, restart-asks, entry-made, threshold-made, limits-made, report-made, restart-made}
 use Rattle.playing.proofs.play_call.Goals as goal
 
-pub get_u16-kind-requires : goal.get_u16-kind-requires
-get_u16-kind-requires c =
-    let a = c.args in head-asks a.book a.ring.now a.other.now a.image.now a.numbers.now a.factors.now a.table.now a.calls.now a.at a.out a.answers.now c.requires.at_in_bounds.0 c.requires.at_in_bounds.1 c.requires.answers_value
+pub get_u16-requires : goal.get_u16-requires
+get_u16-requires c = let a = c.args in head-asks a.book a.ring.now a.other.now a.image.now a.numbers.now a.factors.now a.table.now a.calls.now a.at a.out a.answers.now c.requires.at_in_bounds.0 c.requires.at_in_bounds.1 c.requires.answers_value
 
-pub play_entry-after-requires : goal.play_entry-after-requires
-play_entry-after-requires c =
-    let entry : let a = c.args in number_at a.calls.now (a.at + 4) 2 ≡ 65 = sym c.get_u16-kind.ensures ∙ c.if-kind-eq65.true in
+pub play_entry-requires : goal.play_entry-requires
+play_entry-requires c =
     let a = c.args in
-    let r = entry-asks a.book a.ring.now a.other.now a.image.now a.numbers.now a.factors.now a.table.now a.calls.now a.at a.out a.answers.now c.requires.at_in_bounds.0 c.requires.at_in_bounds.1 c.requires.answers_value entry in
-    record { at_in_bounds = r.0; at_in_bounds_2 = r.1.0; at_in_bounds_3 = r.1.1 }
+    let r = entry-asks a.book a.ring.now a.other.now a.image.now a.numbers.now a.factors.now a.table.now a.calls.now a.at a.out a.answers.now c.requires.at_in_bounds.0 c.requires.at_in_bounds.1 c.requires.answers_value (sym c.get_u16.ensures ∙ c.in-65.is) in record { at_in_bounds = r.0; at_in_bounds_2 = r.1.0; at_in_bounds_3 = r.1.1 }
 
-pub returns-then-kind-eq65 : goal.returns-then-kind-eq65
-returns-then-kind-eq65 c =
-    let entry : let a = c.args in number_at a.calls.now (a.at + 4) 2 ≡ 65 = sym c.get_u16-kind.ensures ∙ c.if-kind-eq65.true in
+pub returns-in-65 : goal.returns-in-65
+returns-in-65 c =
     let a = c.args in
-    let e = c.play_entry-after.ensures in
-    let r = entry-made a.book a.ring.now a.other.now a.image.now a.numbers.now a.factors.now a.table.now a.calls.now a.at a.out a.answers.now entry e.value e.ring_after e.numbers_after e.factors_after e.table_after e.answers_after in
+    let kind : kind_at a.calls.now a.at ≡ 65 = sym c.get_u16.ensures ∙ c.in-65.is in
+    let e = c.play_entry.ensures in
+    let r = entry-made a.book a.ring.now a.other.now a.image.now a.numbers.now a.factors.now a.table.now a.calls.now a.at a.out a.answers.now kind e.value e.ring_after e.numbers_after e.factors_after e.table_after e.answers_after in
     record { swapped_value = r.0; answers_after = r.1 }
 
-pub play_threshold-after-requires : goal.play_threshold-after-requires
-play_threshold-after-requires c =
-    let threshold : let a = c.args in number_at a.calls.now (a.at + 4) 2 ≡ 66 = sym c.get_u16-kind.ensures ∙ c.if-kind-eq66.true in
-    let a = c.args in threshold-asks a.book a.ring.now a.other.now a.image.now a.numbers.now a.factors.now a.table.now a.calls.now a.at a.out a.answers.now c.requires.at_in_bounds.0 c.requires.at_in_bounds.1 c.requires.answers_value threshold
-
-pub returns-then-kind-eq66 : goal.returns-then-kind-eq66
-returns-then-kind-eq66 c =
-    let threshold : let a = c.args in number_at a.calls.now (a.at + 4) 2 ≡ 66 = sym c.get_u16-kind.ensures ∙ c.if-kind-eq66.true in
+pub play_threshold-requires : goal.play_threshold-requires
+play_threshold-requires c =
     let a = c.args in
-    let e = c.play_threshold-after.ensures in
-    let r = threshold-made a.book a.ring.now a.other.now a.image.now a.numbers.now a.factors.now a.table.now a.calls.now a.at a.out a.answers.now threshold e.value e.answers_after in
+    threshold-asks a.book a.ring.now a.other.now a.image.now a.numbers.now a.factors.now a.table.now a.calls.now a.at a.out a.answers.now c.requires.at_in_bounds.0 c.requires.at_in_bounds.1 c.requires.answers_value (sym c.get_u16.ensures ∙ c.in-66.is)
+
+pub returns-in-66 : goal.returns-in-66
+returns-in-66 c =
+    let a = c.args in
+    let kind : kind_at a.calls.now a.at ≡ 66 = sym c.get_u16.ensures ∙ c.in-66.is in
+    let e = c.play_threshold.ensures in
+    let r = threshold-made a.book a.ring.now a.other.now a.image.now a.numbers.now a.factors.now a.table.now a.calls.now a.at a.out a.answers.now kind e.value e.answers_after in
     record { swapped_value = r.0; answers_after = r.1 }
 
-pub play_limits-after-requires : goal.play_limits-after-requires
-play_limits-after-requires c =
-    let limits : let a = c.args in number_at a.calls.now (a.at + 4) 2 ≡ 67 = sym c.get_u16-kind.ensures ∙ c.if-kind-eq67.true in
-    let a = c.args in limits-asks a.book a.ring.now a.other.now a.image.now a.numbers.now a.factors.now a.table.now a.calls.now a.at a.out a.answers.now c.requires.at_in_bounds.0 c.requires.at_in_bounds.1 c.requires.answers_value limits
-
-pub returns-then-kind-eq67 : goal.returns-then-kind-eq67
-returns-then-kind-eq67 c =
-    let limits : let a = c.args in number_at a.calls.now (a.at + 4) 2 ≡ 67 = sym c.get_u16-kind.ensures ∙ c.if-kind-eq67.true in
+pub play_limits-requires : goal.play_limits-requires
+play_limits-requires c =
     let a = c.args in
-    let e = c.play_limits-after.ensures in
-    let r = limits-made a.book a.ring.now a.other.now a.image.now a.numbers.now a.factors.now a.table.now a.calls.now a.at a.out a.answers.now limits e.value e.answers_after in
+    limits-asks a.book a.ring.now a.other.now a.image.now a.numbers.now a.factors.now a.table.now a.calls.now a.at a.out a.answers.now c.requires.at_in_bounds.0 c.requires.at_in_bounds.1 c.requires.answers_value (sym c.get_u16.ensures ∙ c.in-67.is)
+
+pub returns-in-67 : goal.returns-in-67
+returns-in-67 c =
+    let a = c.args in
+    let kind : kind_at a.calls.now a.at ≡ 67 = sym c.get_u16.ensures ∙ c.in-67.is in
+    let e = c.play_limits.ensures in
+    let r = limits-made a.book a.ring.now a.other.now a.image.now a.numbers.now a.factors.now a.table.now a.calls.now a.at a.out a.answers.now kind e.value e.answers_after in
     record { swapped_value = r.0; answers_after = r.1 }
 
-pub play_report-after-requires : goal.play_report-after-requires
-play_report-after-requires c =
-    let report : let a = c.args in number_at a.calls.now (a.at + 4) 2 ≡ 68 = sym c.get_u16-kind.ensures ∙ c.if-kind-eq68.true in
-    let a = c.args in report-asks a.book a.ring.now a.other.now a.image.now a.numbers.now a.factors.now a.table.now a.calls.now a.at a.out a.answers.now c.requires.at_in_bounds.0 c.requires.at_in_bounds.1 c.requires.answers_value report
-
-pub returns-then-kind-eq68 : goal.returns-then-kind-eq68
-returns-then-kind-eq68 c =
-    let report : let a = c.args in number_at a.calls.now (a.at + 4) 2 ≡ 68 = sym c.get_u16-kind.ensures ∙ c.if-kind-eq68.true in
+pub play_report-requires : goal.play_report-requires
+play_report-requires c =
     let a = c.args in
-    let e = c.play_report-after.ensures in
-    let r = report-made a.book a.ring.now a.other.now a.image.now a.numbers.now a.factors.now a.table.now a.calls.now a.at a.out a.answers.now report e.value e.answers_after in
+    report-asks a.book a.ring.now a.other.now a.image.now a.numbers.now a.factors.now a.table.now a.calls.now a.at a.out a.answers.now c.requires.at_in_bounds.0 c.requires.at_in_bounds.1 c.requires.answers_value (sym c.get_u16.ensures ∙ c.in-68.is)
+
+pub returns-in-68 : goal.returns-in-68
+returns-in-68 c =
+    let a = c.args in
+    let kind : kind_at a.calls.now a.at ≡ 68 = sym c.get_u16.ensures ∙ c.in-68.is in
+    let e = c.play_report.ensures in
+    let r = report-made a.book a.ring.now a.other.now a.image.now a.numbers.now a.factors.now a.table.now a.calls.now a.at a.out a.answers.now kind e.value e.answers_after in
     record { swapped_value = r.0; answers_after = r.1 }
 
 pub play_restart-requires : goal.play_restart-requires
 play_restart-requires c =
-    let not-1 : let a = c.args in number_at a.calls.now (a.at + 4) 2 ≡ 65 → ⊥ = λ e. c.if-kind-eq65.false (c.get_u16-kind.ensures ∙ e) in
-    let not-2 : let a = c.args in number_at a.calls.now (a.at + 4) 2 ≡ 66 → ⊥ = λ e. c.if-kind-eq66.false (c.get_u16-kind.ensures ∙ e) in
-    let not-3 : let a = c.args in number_at a.calls.now (a.at + 4) 2 ≡ 67 → ⊥ = λ e. c.if-kind-eq67.false (c.get_u16-kind.ensures ∙ e) in
-    let not-4 : let a = c.args in number_at a.calls.now (a.at + 4) 2 ≡ 68 → ⊥ = λ e. c.if-kind-eq68.false (c.get_u16-kind.ensures ∙ e) in
-    let a = c.args in restart-asks a.book a.ring.now a.other.now a.image.now a.numbers.now a.factors.now a.table.now a.calls.now a.at a.out a.answers.now c.requires.at_in_bounds.0 c.requires.at_in_bounds.1 c.requires.answers_value not-1 not-2 not-3 not-4
-
-pub returns : goal.returns
-returns c =
-    let not-1 : let a = c.args in number_at a.calls.now (a.at + 4) 2 ≡ 65 → ⊥ = λ e. c.if-kind-eq65.false (c.get_u16-kind.ensures ∙ e) in
-    let not-2 : let a = c.args in number_at a.calls.now (a.at + 4) 2 ≡ 66 → ⊥ = λ e. c.if-kind-eq66.false (c.get_u16-kind.ensures ∙ e) in
-    let not-3 : let a = c.args in number_at a.calls.now (a.at + 4) 2 ≡ 67 → ⊥ = λ e. c.if-kind-eq67.false (c.get_u16-kind.ensures ∙ e) in
-    let not-4 : let a = c.args in number_at a.calls.now (a.at + 4) 2 ≡ 68 → ⊥ = λ e. c.if-kind-eq68.false (c.get_u16-kind.ensures ∙ e) in
     let a = c.args in
+    let not-65 : kind_at a.calls.now a.at ≡ 65 → ⊥ = λ e. omega (arith, e, c.get_u16.ensures) in
+    let not-66 : kind_at a.calls.now a.at ≡ 66 → ⊥ = λ e. omega (arith, e, c.get_u16.ensures) in
+    let not-67 : kind_at a.calls.now a.at ≡ 67 → ⊥ = λ e. omega (arith, e, c.get_u16.ensures) in
+    let not-68 : kind_at a.calls.now a.at ≡ 68 → ⊥ = λ e. omega (arith, e, c.get_u16.ensures) in
+    restart-asks a.book a.ring.now a.other.now a.image.now a.numbers.now a.factors.now a.table.now a.calls.now a.at a.out a.answers.now c.requires.at_in_bounds.0 c.requires.at_in_bounds.1 c.requires.answers_value not-65 not-66 not-67 not-68
+
+pub returns-in_default : goal.returns-in_default
+returns-in_default c =
+    let a = c.args in
+    let not-65 : kind_at a.calls.now a.at ≡ 65 → ⊥ = λ e. omega (arith, e, c.get_u16.ensures) in
+    let not-66 : kind_at a.calls.now a.at ≡ 66 → ⊥ = λ e. omega (arith, e, c.get_u16.ensures) in
+    let not-67 : kind_at a.calls.now a.at ≡ 67 → ⊥ = λ e. omega (arith, e, c.get_u16.ensures) in
+    let not-68 : kind_at a.calls.now a.at ≡ 68 → ⊥ = λ e. omega (arith, e, c.get_u16.ensures) in
     let e = c.play_restart.ensures in
-    let r = restart-made a.book a.ring.now a.other.now a.image.now a.numbers.now a.factors.now a.table.now a.calls.now a.at a.out a.answers.now not-1 not-2 not-3 not-4 e.swapped_value e.book_value e.other_after e.image_after e.answers_after in
+    let r = restart-made a.book a.ring.now a.other.now a.image.now a.numbers.now a.factors.now a.table.now a.calls.now a.at a.out a.answers.now not-65 not-66 not-67 not-68 e.swapped_value e.book_value e.other_after e.image_after e.answers_after in
     record { swapped_value = r.0; answers_after = r.1 }

@@ -6,8 +6,9 @@ use native.Mathlib.Omega.{arith}
 use lib.ListN.{length}
 use mir.Syntax.{w64}
 use mir.Val.{Fits}
-use Rattle.playing.specs.Playing.{State, state_of, playable}
-use Rattle.replay.proofs.Looping.{Fit, room_by, plays, start, fits_in, again, done, leaves}
+use Rattle.playing.specs.Playing.{State, state_of}
+use Rattle.replay.proofs.Looping.{Fit, room_by, plays, stops, start, fits_in, again, done, leaves}
+use Rattle.replay.proofs.Turning.{turn-is}
 use Rattle.replay.proofs.play_calls.Goals as goal
 
 -- a sum that stays within a length fits
@@ -18,55 +19,46 @@ within a n m b e l h = record { fits = omega arith }
 shrinks : (a n m b : ℕ) → n ≡ m → 1 ≤ m → a + m ≤ b → b - (a + n) < b - a
 shrinks a n m b e o l = omega arith
 
-pub loop-book-init : goal.loop-book-init
-loop-book-init c = let p = c.requires in (start _ _ p.0 p.1, refl, refl, refl, refl, refl, refl, refl)
-
-pub answer_size-answer-requires : goal.answer_size-answer-requires
-answer_size-answer-requires c =
-    let bytes : List ℕ = c.args.calls.now in
-    let state : State = (let l = c.loop-book in state_of c.loop-book.turned c.loop-book.book c.loop-book.ring c.loop-book.other c.loop-book.image c.loop-book.numbers c.loop-book.factors c.loop-book.table c.loop-book.at c.loop-book.out c.loop-book.answers) in
-    let test : playable (bytes) (state) ≡ c.goes.result = (let l = c.loop-book in
-    plays (bytes) (state) c.picked.result c.goes.result (room_by c.loop-book.turned c.loop-book.other c.loop-book.ring c.picked.result c.picked.ensures) c.goes.ensures) in
-    let fits : let l = c.loop-book in Fit (bytes) c.loop-book.at c.loop-book.out (length c.loop-book.answers) = fits_in c.loop-book.invariant.0 (test ∙ c.loop-book-test.true) in
-    let f = fits in (c.loop-book.invariant.0.at, f.head, f.forty)
+pub loop-next-init : goal.loop-next-init
+loop-next-init c = let p = c.requires in (start _ _ p.0 p.1, refl, refl, refl, refl, refl, refl, refl)
 
 pub overflow_add-at : goal.overflow_add-at
 overflow_add-at c =
+    let l = c.loop-next in
     let bytes : List ℕ = c.args.calls.now in
-    let state : State = (let l = c.loop-book in state_of l.turned l.book l.ring l.other l.image l.numbers l.factors l.table l.at l.out l.answers) in
-    let test : playable bytes state ≡ c.goes.result =
-    (let l = c.loop-book in plays bytes state c.picked.result c.goes.result (room_by l.turned l.other l.ring c.picked.result c.picked.ensures) c.goes.ensures) in
-    let f : Fit bytes c.loop-book.at c.loop-book.out (length c.loop-book.answers) = fits_in c.loop-book.invariant.0 (test ∙ c.loop-book-test.true) in
-    within _ _ _ _ c.call_size-size.ensures f.inside (omega arith)
+    let state : State = state_of l.turned l.book l.ring l.other l.image l.numbers l.factors l.table l.at l.out l.answers in
+    let next = plays bytes state c.picked.result c.next_call.result (room_by l.turned l.other l.ring c.picked.result c.picked.ensures) c.next_call.ensures c.in-Some.next c.in-Some.is in
+    let f : Fit bytes l.at l.out (length l.answers) = fits_in l.invariant.0 next.0 in
+    within _ _ _ _ next.1 f.inside (omega arith)
 
 pub overflow_add-out : goal.overflow_add-out
 overflow_add-out c =
+    let l = c.loop-next in
     let bytes : List ℕ = c.args.calls.now in
-    let state : State = (let l = c.loop-book in state_of l.turned l.book l.ring l.other l.image l.numbers l.factors l.table l.at l.out l.answers) in
-    let test : playable bytes state ≡ c.goes.result =
-    (let l = c.loop-book in plays bytes state c.picked.result c.goes.result (room_by l.turned l.other l.ring c.picked.result c.picked.ensures) c.goes.ensures) in
-    let f : Fit bytes c.loop-book.at c.loop-book.out (length c.loop-book.answers) = fits_in c.loop-book.invariant.0 (test ∙ c.loop-book-test.true) in
-    within _ _ _ _ c.answer_size-answer.ensures f.room (omega arith)
+    let state : State = state_of l.turned l.book l.ring l.other l.image l.numbers l.factors l.table l.at l.out l.answers in
+    let next = plays bytes state c.picked.result c.next_call.result (room_by l.turned l.other l.ring c.picked.result c.picked.ensures) c.next_call.ensures c.in-Some.next c.in-Some.is in
+    let f : Fit bytes l.at l.out (length l.answers) = fits_in l.invariant.0 next.0 in
+    within _ _ _ _ next.2 f.room (omega arith)
 
-pub loop-book-smaller : goal.loop-book-smaller
-loop-book-smaller c =
+pub loop-next-smaller : goal.loop-next-smaller
+loop-next-smaller c =
+    let l = c.loop-next in
     let bytes : List ℕ = c.args.calls.now in
-    let state : State = (let l = c.loop-book in state_of l.turned l.book l.ring l.other l.image l.numbers l.factors l.table l.at l.out l.answers) in
-    let test : playable bytes state ≡ c.goes.result =
-    (let l = c.loop-book in plays bytes state c.picked.result c.goes.result (room_by l.turned l.other l.ring c.picked.result c.picked.ensures) c.goes.ensures) in
-    let f : Fit bytes c.loop-book.at c.loop-book.out (length c.loop-book.answers) = fits_in c.loop-book.invariant.0 (test ∙ c.loop-book-test.true) in
-    shrinks _ _ _ _ c.call_size-size.ensures f.some f.inside
+    let state : State = state_of l.turned l.book l.ring l.other l.image l.numbers l.factors l.table l.at l.out l.answers in
+    let next = plays bytes state c.picked.result c.next_call.result (room_by l.turned l.other l.ring c.picked.result c.picked.ensures) c.next_call.ensures c.in-Some.next c.in-Some.is in
+    let f : Fit bytes l.at l.out (length l.answers) = fits_in l.invariant.0 next.0 in
+    shrinks _ _ _ _ next.1 f.some f.inside
 
-pub loop-book-preserved : goal.loop-book-preserved
-loop-book-preserved c =
+pub loop-next-preserved : goal.loop-next-preserved
+loop-next-preserved c =
+    let l = c.loop-next in
     let bytes : List ℕ = c.args.calls.now in
-    let state : State = (let l = c.loop-book in state_of l.turned l.book l.ring l.other l.image l.numbers l.factors l.table l.at l.out l.answers) in
-    let test : playable bytes state ≡ c.goes.result =
-    (let l = c.loop-book in plays bytes state c.picked.result c.goes.result (room_by l.turned l.other l.ring c.picked.result c.picked.ensures) c.goes.ensures) in
-    let h = c.loop-book.invariant in
+    let state : State = state_of l.turned l.book l.ring l.other l.image l.numbers l.factors l.table l.at l.out l.answers in
+    let next = plays bytes state c.picked.result c.next_call.result (room_by l.turned l.other l.ring c.picked.result c.picked.ensures) c.next_call.ensures c.in-Some.next c.in-Some.is in
+    let h = l.invariant in
     let r = c.play_turned-played in
     let k = r.auto in (
-      again h.0 r.result.swapped _ _ _ _ _ _ _ _ _ _ (test ∙ c.loop-book-test.true) c.call_size-size.ensures c.answer_size-answer.ensures r.ensures.swapped_value r.ensures.answers_after k.answers,
+      rw (turn-is l.turned r.result.swapped) (again h.0 r.result.swapped _ _ _ _ _ _ _ _ _ _ next.0 next.1 next.2 r.ensures.swapped_value r.ensures.answers_after k.answers),
       k.ring ∙ h.1,
       k.other ∙ h.2,
       k.image ∙ h.3,
@@ -78,9 +70,8 @@ loop-book-preserved c =
 
 pub returns : goal.returns
 returns c =
+    let l = c.loop-next in
     let bytes : List ℕ = c.args.calls.now in
-    let state : State = (let l = c.loop-book in state_of c.loop-book.turned c.loop-book.book c.loop-book.ring c.loop-book.other c.loop-book.image c.loop-book.numbers c.loop-book.factors c.loop-book.table c.loop-book.at c.loop-book.out c.loop-book.answers) in
-    let test : playable (bytes) (state) ≡ c.goes.result = (let l = c.loop-book in
-    plays (bytes) (state) c.picked.result c.goes.result (room_by c.loop-book.turned c.loop-book.other c.loop-book.ring c.picked.result c.picked.ensures) c.goes.ensures) in
-    let l = c.loop-book in
-    leaves c.loop-book.turned c.loop-book.book c.loop-book.ring c.loop-book.other c.loop-book.image c.loop-book.numbers c.loop-book.factors c.loop-book.table c.loop-book.at c.loop-book.out c.loop-book.answers ∙ done c.loop-book.invariant.0 [] [] (test ∙ c.loop-book-test.false)
+    let state : State = state_of l.turned l.book l.ring l.other l.image l.numbers l.factors l.table l.at l.out l.answers in
+    let stopped = stops bytes state c.picked.result c.next_call.result (room_by l.turned l.other l.ring c.picked.result c.picked.ensures) c.next_call.ensures c.in_default.is in
+    leaves l.turned l.book l.ring l.other l.image l.numbers l.factors l.table l.at l.out l.answers ∙ done l.invariant.0 [] [] stopped

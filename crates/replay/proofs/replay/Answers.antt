@@ -6,7 +6,7 @@ use native.Mathlib.Omega.{arith}
 use lib.ListN.{length}
 use Rattle.records.specs.Reading.{opens}
 use Rattle.replay.specs.Replay.{Lent, mine, spare, lent_of}
-use Rattle.replay.proofs.Beginning.{opening-whole, unopened, unwritten, replays, promises, part-is}
+use Rattle.replay.proofs.Beginning.{opening-whole, unopened, unwritten, replays, promises, part-is, part-min}
 use Rattle.replay.proofs.replay.Goals as goal
 
 pub returns-then-not-opens : goal.returns-then-not-opens
@@ -49,8 +49,8 @@ pub returns : goal.returns
 returns c =
     let lent : Lent = (let a = c.args in lent_of a.answers.now a.ring.now a.other.now a.image.now a.numbers.now a.factors.now a.table.now) in
     let opened : opens c.args.calls.now ≡ true = sym c.opens.ensures ∙ c.if-not-opens.false in
-    let mine-is : c.picked-mine.result ≡ mine c.args.calls.now (lent) = (part-is _ _ _ _ _ _ _ c.get_u8.ensures c.get_u8-2.ensures c.get_u16.ensures c.ring_size-size.ensures c.picked-mine.ensures) in
-    let spare-is : c.picked-spare.result ≡ spare c.args.calls.now (lent) = (part-is _ _ _ _ _ _ _ c.get_u8.ensures c.get_u8-2.ensures c.get_u16.ensures c.ring_size-size.ensures c.picked-spare.ensures) in
+    let mine-is : c.min-mine.result ≡ mine c.args.calls.now (lent) = (part-is _ _ _ _ _ _ _ c.get_u8.ensures c.get_u8-2.ensures c.get_u16.ensures c.ring_size-size.ensures (part-min _ _ _ c.min-mine.ensures)) in
+    let spare-is : c.min-spare.result ≡ spare c.args.calls.now (lent) = (part-is _ _ _ _ _ _ _ c.get_u8.ensures c.get_u8-2.ensures c.get_u16.ensures c.ring_size-size.ensures (part-min _ _ _ c.min-spare.ensures)) in
     let p = promises c.args.calls.now (lent) _
     (replays c.args.calls.now (lent) _ _ _ _ _ _ _ _ _ _ (opened) c.if-answers-lt14.false (mine-is) (spare-is) c.play_opening.ensures) in
     record { table_after = p.0; result_value = p.1.0; answers_after = p.1.1.0; upper_bound = p.1.1.1 }

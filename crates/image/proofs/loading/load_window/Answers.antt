@@ -4,5 +4,4 @@ use Rattle.image.proofs.loading.load_window.Goals as goal
 
 pub returns : goal.returns
 returns c =
-    let a = c.args in
-    rw (c.zero_run.ensures, c.get_words.ensures) (load-runs a.bytes.now a.ring.now a.window a.count a.from a.base c.requires.0)
+    load-runs c.args.bytes.now c.args.window.now c.get_words.new.numbers c.fill.new.self c.args.count c.args.from c.requires.0 c.get_words.ensures (c.fill.ensures.after (λ y e. e))

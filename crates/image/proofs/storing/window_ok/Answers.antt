@@ -1,27 +1,35 @@
 -- `image::storing::window_ok` meets its contract. Assumes nothing.
-use mathlib.Core.Path.{refl, sym, ap₂, ◌∙◌}
+use mathlib.Core.Path.{sym, ap, ap₂, ◌∙◌}
 use mathlib.Core.Bool.{◌&&◌}
 use native.Mathlib.Omega.{arith}
-use borrow.Author.Rules.{rules}
-use lib.IntN.{ℤ, ◌+ℤ◌}
+use lib.Dec.{eqb}
+use lib.IntN.{ℤ, pos, ◌+ℤ◌}
+use lib.Signed.{le_z}
+use lib.ListN.{get_or}
 use mir.Syntax.{w64}
-use mir.Val.{SFits}
+use mir.Val.{SFits, of_z}
 use mir.Facts.{to_z-of_z}
 use Rattle.laws.proofs.Integers.{add-fits}
-use Rattle.image.proofs.Runs.{Older, older, all_runs, total_runs}
+use Rattle.pricing.specs.Holding.{is_energy, in_range}
+use Rattle.image.proofs.Runs.{runs-all, runs-total, eqb-le}
+use borrow.Author.Rules.{rules}
 use Rattle.image.proofs.storing.window_ok.Goals as goal
 
 pub returns : goal.returns
 returns c =
-    let runs : let a = c.args in Older a.window a.start a.count c.before_end-older.result = (rw (← c.before_end-older.ensures) at (older c.args.window c.args.start c.args.count c.requires.start_le_window.0 c.requires.start_le_window.1)) in
-    let older-total : ℤ = c.run_total.result in
-    let fits-1 : SFits w64 older-total = search rules in
-    let newer-total : ℤ = c.run_total-2.result in
-    let fits-2 : SFits w64 newer-total = search rules in
-    let sum_fits : SFits w64 (older-total +ℤ newer-total) = (let o = runs in omega (arith, add-fits, o.part, c.run_total.ensures.1, c.run_total-2.ensures.1)) in
-    let a = c.args in
-    let m = c.before_end-older.result in
-    let h : SFits w64 a.sum = search rules in
-    let k = ap₂ ◌&&◌ c.run_ok.ensures c.run_ok-2.ensures ∙ sym (all_runs a.ring.now a.base a.window a.start a.count m (runs) a.market) in
-    let t = ap₂ ◌+ℤ◌ c.run_total.ensures.0 c.run_total-2.ensures.0 ∙ sym (total_runs a.ring.now a.base a.window a.start a.count m (runs)) in
-    rw (to_z-of_z (fits-1), to_z-of_z (fits-2), to_z-of_z (sum_fits), to_z-of_z h, k, t) refl
+    let older = c.in_order.result.0.now in
+    let newer = c.in_order.result.1.now in
+    let a = c.all_in.ensures (λ i. get_or older i (pos 0)) (λ i z h p. search rules) in
+    let b = c.all_in-2.ensures (λ i. get_or newer i (pos 0)) (λ i z h p. search rules) in
+    let s = c.sum.ensures.total (λ i. get_or older i (pos 0)) (λ i z h p. search rules) in
+    let t = c.sum-2.ensures.total (λ i. get_or newer i (pos 0)) (λ i z h p. search rules) in
+    let order = c.in_order.ensures.prices in
+    let ok = ap₂ ◌&&◌ a b ∙ sym (runs-all _ _ older newer order (in_range (is_energy c.args.market))) in
+    let sum = ap₂ ◌+ℤ◌ s t ∙ sym (runs-total _ _ older newer order) in
+    let older-fits : SFits w64 c.sum.result = search rules in
+    let newer-fits : SFits w64 c.sum-2.result = search rules in
+    let sum-fits : SFits w64 (c.sum.result +ℤ c.sum-2.result) = omega (arith, add-fits, c.sum.ensures.bound, c.sum-2.ensures.bound, c.in_order.ensures.lengths, c.requires.few, c.requires.in_window.2) in
+    let total-fits : SFits w64 c.args.total = search rules in
+    let read = ap (λ (z : ℤ). eqb (of_z w64 z) (of_z w64 c.args.total)) (ap₂ ◌+ℤ◌ (to_z-of_z older-fits) (to_z-of_z newer-fits)) in
+    let test = eqb-le (c.sum.result +ℤ c.sum-2.result) c.args.total sum-fits total-fits in
+    ap₂ ◌&&◌ ok (read ∙ test ∙ ap (λ (z : ℤ). le_z z c.args.total && le_z c.args.total z) sum)

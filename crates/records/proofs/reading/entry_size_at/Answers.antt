@@ -2,14 +2,16 @@
 use mathlib.Core.Path.{sym, ap, ◌∙◌}
 use native.Mathlib.Omega.{arith}
 use Rattle.records.specs.Reading.{entry_size}
-use Rattle.records.proofs.Readings.{entry-short, entry_zero, entry_whole, lengths-small}
+use Rattle.records.specs.Working.{some_size}
+use Rattle.records.proofs.Readings.{sized, entry-short, entry_zero, entry_whole, lengths-small}
 use Rattle.records.proofs.reading.entry_size_at.Goals as goal
 
 pub returns-then-bytes-at-lt40 : goal.returns-then-bytes-at-lt40
-returns-then-bytes-at-lt40 c = entry-short _ _ c.if-bytes-at-lt40.true
+returns-then-bytes-at-lt40 c = ap some_size (entry-short _ _ c.if-bytes-at-lt40.true)
 
 pub returns-then-get_u8-ne0 : goal.returns-then-get_u8-ne0
-returns-then-get_u8-ne0 c = entry_zero _ _ c.if-bytes-at-lt40.false (λ e. c.if-get_u8-ne0.true (c.get_u8.ensures ∙ e))
+returns-then-get_u8-ne0 c =
+    ap some_size (entry_zero _ _ c.if-bytes-at-lt40.false (λ e. c.if-get_u8-ne0.true (c.get_u8.ensures ∙ e)))
 
 pub entry_size-requires : goal.entry_size-requires
 entry_size-requires c =
@@ -17,4 +19,5 @@ entry_size-requires c =
 
 pub returns : goal.returns
 returns c =
-    entry_whole _ _ c.if-bytes-at-lt40.false (sym c.get_u8.ensures ∙ c.if-get_u8-ne0.false) _ (c.entry_size.ensures ∙ ap entry_size c.lengths_at-lengths.ensures)
+    let size = entry_whole _ _ c.if-bytes-at-lt40.false (sym c.get_u8.ensures ∙ c.if-get_u8-ne0.false) _ (c.entry_size.ensures ∙ ap entry_size c.lengths_at-lengths.ensures) in
+    sized _ _ size (omega (arith, c.entry_size.ensures))
