@@ -34,18 +34,15 @@ use book::record::{Book, Settings};
 use book_calls::opening::open;
 use book_calls::report::report;
 use book_calls::setting::{set_limits, set_threshold};
-use entries::enter;
-use face::{
-    Billed, Drawn, Found, Kept, Left, Rewritten, Rows, Seen, Taken, Written, billed_of, drawn_of,
-    found_of, interval_of, kept_of, left_of, rewritten_of, rows_of, seen_of, taken_of, written_of,
-};
+use entries::{Entry, enter};
+use face::{Billed, Drawn, Found, Kept, Left, Rewritten, Rows, Seen, Taken, Written};
 use image::loading::{check, load};
 use image::storing::{store_kind_1, store_kind_2};
 use interval_rewriter::rewriting::rewrite_interval;
-use interval_writer::writing::write_interval;
+use interval_writer::writing::{Interval, write_interval};
 use intervals::reading::read_interval;
 use planning::intervals_left;
-use pricing::indexing::{Answer, Quarters, indexed};
+use pricing::indexing::{OutOfRange, Quarters, indexed};
 use replay::replay;
 use schedule::schedule;
 use synthetic::synthesize;
@@ -63,30 +60,21 @@ pub extern "C" fn guxhamole_abi() -> u32
 pub extern "C" fn guxhamole_open(settings: Settings, ring: &mut [i32]) -> Kept
     ensures { opened_of result ring.new ≡ opened settings ring.old }
 {
-    let opened = open(settings, ring);
-    let book = opened.book;
-    let answer = opened.answer;
-    kept_of(book, answer)
+    Kept::from(open(settings, ring))
 }
 
 #[unsafe(no_mangle)]
 pub extern "C" fn guxhamole_set_threshold(book: Book, threshold: i64) -> Kept
     ensures { changed_of result ≡ set_threshold book threshold }
 {
-    let changed = set_threshold(book, threshold);
-    let after = changed.book;
-    let answer = changed.answer;
-    kept_of(after, answer)
+    Kept::from(set_threshold(book, threshold))
 }
 
 #[unsafe(no_mangle)]
 pub extern "C" fn guxhamole_set_limits(book: Book, cap: i32, floor: i32) -> Kept
     ensures { changed_of result ≡ set_limits book cap floor }
 {
-    let changed = set_limits(book, cap, floor);
-    let after = changed.book;
-    let answer = changed.answer;
-    kept_of(after, answer)
+    Kept::from(set_limits(book, cap, floor))
 }
 
 // A market's sum, prices counted and period mark, and the entries taken.
@@ -94,9 +82,7 @@ pub extern "C" fn guxhamole_set_limits(book: Book, cap: i32, floor: i32) -> Kept
 pub extern "C" fn guxhamole_report(book: Book, region: u32, market: u32) -> Seen
     ensures { numbers_of result ≡ report_of book region market }
 {
-    let reported = report(book, region, market);
-    let reading = reported.reading;
-    seen_of(reading)
+    Seen::from(report(book, region, market))
 }
 
 // The entry of an interval.
@@ -117,12 +103,16 @@ pub extern "C" fn guxhamole_enter(
         schedule.now in
         taken_of result ring.new table.new ≡ entered book ring.old number entry table.old }
 {
-    let entered = enter(
-        book, ring, number, kind, prices, marks, flows, factors, schedule, table,
-    );
-    let after = entered.book;
-    let publication = entered.publication;
-    taken_of(after, publication)
+    let entry = Entry {
+        kind,
+        prices,
+        marked: marks,
+        flows,
+        factors,
+        schedule,
+    };
+    let entered = enter(book, ring, number, &entry, table);
+    Taken::from(entered)
 }
 
 // The image of kind 1 as the first bytes of `image`; the bytes after it stay. It cannot tell of an additional link.
@@ -130,9 +120,7 @@ pub extern "C" fn guxhamole_enter(
 pub extern "C" fn guxhamole_store(book: Book, ring: &[i32], image: &mut [u8]) -> Written
     ensures { stored_of result book image.new ≡ stored false book ring.now image.old }
 {
-    let stored = store_kind_1(book, ring, image);
-    let answer = stored.image;
-    written_of(answer)
+    Written::from(store_kind_1(book, ring, image))
 }
 
 // The image of kind 2.
@@ -140,9 +128,7 @@ pub extern "C" fn guxhamole_store(book: Book, ring: &[i32], image: &mut [u8]) ->
 pub extern "C" fn guxhamole_store_kind_2(book: Book, ring: &[i32], image: &mut [u8]) -> Written
     ensures { stored_of result book image.new ≡ stored true book ring.now image.old }
 {
-    let stored = store_kind_2(book, ring, image);
-    let answer = stored.image;
-    written_of(answer)
+    Written::from(store_kind_2(book, ring, image))
 }
 
 // The book of an image, with its prices in `ring`.
@@ -150,10 +136,7 @@ pub extern "C" fn guxhamole_store_kind_2(book: Book, ring: &[i32], image: &mut [
 pub extern "C" fn guxhamole_load(image: &[u8], ring: &mut [i32]) -> Kept
     ensures { loaded_of result ring.new ≡ loaded image.now ring.old }
 {
-    let loaded = load(image, ring);
-    let book = loaded.book;
-    let answer = loaded.answer;
-    kept_of(book, answer)
+    Kept::from(load(image, ring))
 }
 
 // Reads the interval that stands at a place of `records` into the four slices.
@@ -171,9 +154,7 @@ pub extern "C" fn guxhamole_interval_read(
         read_of result book prices.new marks.new flows.new factors.new
         ≡ read_interval book records.now at lent }
 {
-    let taken = read_interval(book, records, at, prices, marks, flows, factors);
-    let found = taken.found;
-    found_of(found)
+    Found::from(read_interval(book, records, at, prices, marks, flows, factors))
 }
 
 // Writes an interval as the first bytes of `buffer`; the bytes after it stay.
@@ -192,9 +173,15 @@ pub extern "C" fn guxhamole_interval_write(
         factors.now in
         write_of result book buffer.new ≡ write_interval book v buffer.old }
 {
-    let written = write_interval(book, entry, kind, prices, marks, flows, factors, buffer);
-    let size = written.size;
-    interval_of(size)
+    let interval = Interval {
+        number: entry,
+        kind,
+        prices,
+        marked: marks,
+        flows,
+        factors,
+    };
+    Written::from(write_interval(book, &interval, buffer))
 }
 
 // Writes the interval of the earlier form at a place of `records` as the first bytes of `buffer`, its regions in number order; the bytes
@@ -208,9 +195,7 @@ pub extern "C" fn guxhamole_interval_rewrite(
 ) -> Rewritten
     ensures { rewrite_of result book buffer.new ≡ rewrite_interval book records.now at buffer.old }
 {
-    let rewritten = rewrite_interval(book, records, at, buffer);
-    let place = rewritten.place;
-    rewritten_of(place)
+    Rewritten::from(rewrite_interval(book, records, at, buffer))
 }
 
 // Holds a bill's lines against the published prices of a region in a day's records, which are entered on `work` in place of `ring`.
@@ -231,11 +216,9 @@ pub extern "C" fn guxhamole_bill(
         judged_of result book work.new
         ≡ billed book ring.now work.old (bill_of records.now schedule.now region lines) }
 {
-    let checked = check_bill(
+    Billed::from(check_bill(
         book, ring, work, records, schedule, region, numbers, energy, prices, amounts,
-    );
-    let judgement = checked.judgement;
-    billed_of(judgement)
+    ))
 }
 
 // Fills the four slices with a test load that is drawn from a seed.
@@ -254,9 +237,7 @@ pub extern "C" fn guxhamole_synthetic(
         synthesized_of result book prices.new marks.new flows.new factors.new
         ≡ synthesized book seed entry kind lent }
 {
-    let made = synthesize(book, seed, entry, kind, prices, marks, flows, factors);
-    let draw = made.draw;
-    drawn_of(draw)
+    Drawn::from(synthesize(book, seed, entry, kind, prices, marks, flows, factors))
 }
 
 // How many further unmarked intervals at a price make a market's sum exceed the threshold, 0 if none of 1 to W does.
@@ -270,9 +251,7 @@ pub extern "C" fn guxhamole_intervals_left(
 ) -> Left
     ensures { planned_of result book ≡ intervals_left book ring.now region market price }
 {
-    let planned = intervals_left(book, ring, region, market, price);
-    let left = planned.left;
-    left_of(left)
+    Left::from(intervals_left(book, ring, region, market, price))
 }
 
 // The schedule of one market from 28 days of prices and their kinds; `energy` 0 is a service, anything else energy.
@@ -287,7 +266,7 @@ pub extern "C" fn guxhamole_schedule(
 ) -> Rows
     ensures { rows_of result ≡ Schedule.schedule halves cap floor (energy_of energy) prices.now kinds.now }
 {
-    rows_of(schedule(halves, cap, floor, energy != 0, prices, kinds))
+    Rows::from(schedule(halves, cap, floor, energy != 0, prices, kinds))
 }
 
 // The text of an amount as the first bytes of `buffer`, and how many they are; 0 where there is no room.
@@ -329,8 +308,8 @@ pub extern "C" fn guxhamole_index(
     };
     let answer = indexed(amount, c, b, last);
     match answer {
-        Answer::Dollars(dollars) => dollars as i64,
-        Answer::OutOfRange => -30,
+        Ok(dollars) => dollars as i64,
+        Err(OutOfRange) => -30,
     }
 }
 

@@ -3,27 +3,19 @@
 
 ghost use Rattle.std.specs.Prelude.{◌≡◌};
 ghost use Rattle.billing.specs.Billing as Billing;
-ghost use Rattle.book.specs.Record as Record;
 ghost use Rattle.book.specs.Record.{verdict};
 ghost use Rattle.book_calls.specs.Report.{numbers};
 ghost use Rattle.entries.specs.Entering as Entering;
 ghost use Rattle.image.specs.Storing as Storing;
 ghost use Rattle.intervals.specs.Reading as Intervals;
-ghost use Rattle.interval_writer.specs.Writing as Writing;
 ghost use Rattle.interval_rewriter.specs.Rewriting as Rewriting;
 ghost use Rattle.planning.specs.Left as Planning;
 ghost use Rattle.schedule.specs.Schedule.{verdict_of, answered};
 ghost use Rattle.synthetic.specs.Synthetic as Synthetic;
 ghost use Rattle.face.specs.Face.{kept_by, taken_by, seen_by, written_by, found_by, rewritten_by, drawn_by, left_by, billed_by, rows_of};
 
-use billing::Judgement;
-use book::record::{Answer, Book, Refusal, number, number_in, place, place_in};
+use book::record::{Book, Reply, number_in, place_in};
 use book_calls::report::Reading;
-use entries::Publication;
-use image::storing::Image;
-use interval_rewriter::rewriting::Place;
-use interval_writer::writing::Size;
-use schedule::Making;
 use synthetic::Draw;
 
 // `guxhamole_kept`: a call that hands back a book and nothing else.
@@ -120,233 +112,197 @@ pub struct Rows {
     pub weekend: [i32; 48],
 }
 
-pub fn kept_of(book: Book, answer: Answer) -> Kept
-    ensures { result ≡ kept_by (verdict answer) book }
-{
-    Kept {
-        book,
-        number: number_in(answer),
-        place: place_in(answer) as u64,
-    }
-}
+impl From<Reply<()>> for Kept {
+    ghost from_gives = { λ reply kept. kept ≡ kept_by (verdict reply.answer) reply.book };
 
-pub fn taken_of(book: Book, publication: Publication) -> Taken
-    ensures { result ≡ taken_by (Entering.verdict publication) (Entering.count publication) book }
-{
-    match publication {
-        Publication::Count(count) => Taken {
-            book,
-            number: 0,
-            place: 0,
-            count,
-        },
-        Publication::Refused(refusal) => Taken {
-            book,
-            number: number(refusal),
-            place: place(refusal) as u64,
-            count: 0,
-        },
-    }
-}
-
-pub fn seen_of(reading: Reading) -> Seen
-    ensures { result ≡ seen_by (numbers reading) }
-{
-    match reading {
-        Reading::Values {
-            sum,
-            counted,
-            mark,
-            entries,
-        } => Seen {
-            number: 0,
-            counted: counted as u32,
-            mark: mark as u32,
-            entries,
-            sum,
-        },
-        Reading::Refused(refusal) => Seen {
-            number: number(refusal),
-            counted: 0,
-            mark: 0,
-            entries: 0,
-            sum: 0,
-        },
-    }
-}
-
-// A refused store or write.
-fn not_written(refusal: Refusal) -> Written
-    ensures { result ≡ written_by (Record.verdict_of refusal) 0 }
-{
-    Written {
-        number: number(refusal),
-        length: 0,
-    }
-}
-
-pub fn written_of(image: Image) -> Written
-    ensures { result ≡ written_by (Storing.verdict image) (Storing.length_in image) }
-{
-    match image {
-        Image::Length(length) => Written {
-            number: 0,
-            length: length as u64,
-        },
-        Image::Refused(refusal) => not_written(refusal),
-    }
-}
-
-// Of an interval that was written.
-pub fn interval_of(size: Size) -> Written
-    ensures { result ≡ written_by (Writing.verdict size) (Writing.length_in size) }
-{
-    match size {
-        Size::Length(bytes) => Written {
-            number: 0,
-            length: bytes as u64,
-        },
-        Size::Refused(refusal) => not_written(refusal),
-    }
-}
-
-pub fn found_of(found: intervals::reading::Found) -> Found
-    ensures { result ≡ found_by (Intervals.verdict found) (Intervals.next_in found) (Intervals.number_in found) (Intervals.kind_in found) }
-{
-    match found {
-        intervals::reading::Found::At { next, number, kind } => {
-            let day = kind as u32;
-            Found {
-                number: 0,
-                next: next as u64,
-                entry: number,
-                kind: day,
-            }
+    fn from(reply: Reply<()>) -> Kept {
+        Kept {
+            book: reply.book,
+            number: number_in(reply.answer),
+            place: place_in(reply.answer) as u64,
         }
-        intervals::reading::Found::Refused(refusal) => Found {
-            number: number(refusal),
-            next: 0,
-            entry: 0,
-            kind: 0,
-        },
     }
 }
 
-pub fn rewritten_of(place: Place) -> Rewritten
-    ensures { result ≡ rewritten_by (Rewriting.verdict place) (Rewriting.next_in place) }
-{
-    match place {
-        Place::After(after) => Rewritten {
-            number: 0,
-            next: after as u64,
-        },
-        Place::Refused(refusal) => Rewritten {
-            number: number(refusal),
-            next: 0,
-        },
-    }
-}
+impl From<Reply<u32>> for Taken {
+    ghost from_gives = { λ reply taken. taken ≡ taken_by (verdict reply.answer) (Entering.count reply.answer) reply.book };
 
-pub fn drawn_of(draw: Draw) -> Drawn
-    ensures { result ≡ drawn_by (Synthetic.verdict draw) (Synthetic.seed_in draw) (Synthetic.number_in draw) (Synthetic.kind_in draw) }
-{
-    match draw {
-        Draw::Made { seed, number, kind } => {
-            let day = kind as u32;
-            Drawn {
-                number: 0,
-                seed,
-                entry: number,
-                kind: day,
-            }
+    fn from(reply: Reply<u32>) -> Taken {
+        Taken {
+            book: reply.book,
+            number: number_in(reply.answer),
+            place: place_in(reply.answer) as u64,
+            count: reply.answer.unwrap_or(0),
         }
-        Draw::Refused(refusal) => Drawn {
-            number: number(refusal),
-            seed: 0,
-            entry: 0,
-            kind: 0,
-        },
     }
 }
 
-pub fn left_of(left: planning::Left) -> Left
-    ensures { result ≡ left_by (Planning.verdict left) (Planning.intervals_in left) }
-{
-    match left {
-        planning::Left::Intervals(n) => {
-            let intervals = n as u32;
-            Left {
+impl From<Reply<Reading>> for Seen {
+    ghost from_gives = { λ reply seen. seen ≡ seen_by (numbers reply.answer) };
+
+    fn from(reply: Reply<Reading>) -> Seen {
+        match reply.answer {
+            Ok(reading) => Seen {
                 number: 0,
-                intervals,
-            }
+                counted: reading.counted as u32,
+                mark: reading.mark as u32,
+                entries: reading.entries,
+                sum: reading.sum,
+            },
+            Err(refusal) => Seen {
+                number: refusal.number(),
+                counted: 0,
+                mark: 0,
+                entries: 0,
+                sum: 0,
+            },
         }
-        planning::Left::Refused(refusal) => Left {
-            number: number(refusal),
-            intervals: 0,
-        },
     }
 }
 
-pub fn billed_of(judgement: Judgement) -> Billed
-    ensures { result ≡ billed_by (Billing.verdict judgement) (Billing.right_in judgement) (Billing.line_in judgement) }
-{
-    match judgement {
-        Judgement::Right => Billed {
-            number: 0,
-            place: 0,
-            right: 1,
-            line: 0,
-        },
-        Judgement::Wrong(first) => Billed {
-            number: 0,
-            place: 0,
-            right: 0,
-            line: first as u64,
-        },
-        Judgement::Refused(refusal) => Billed {
-            number: number(refusal),
-            place: place(refusal) as u64,
-            right: 0,
-            line: 0,
-        },
+// Of an image, and of an interval's records.
+impl From<Reply<usize>> for Written {
+    ghost from_gives = { λ reply written. written ≡ written_by (verdict reply.answer) (Storing.length_in reply.answer) };
+
+    fn from(reply: Reply<usize>) -> Written {
+        Written {
+            number: number_in(reply.answer),
+            length: reply.answer.unwrap_or(0) as u64,
+        }
     }
 }
 
-pub fn rows_of(answer: schedule::Answer) -> Rows
-    ensures { rows_of result ≡ answered answer }
-{
-    let making = answer.making;
-    let weekday = answer.weekday;
-    let weekend = answer.weekend;
-    Rows {
-        number: number_of(making),
-        place: place_of(making) as u64,
-        weekday,
-        weekend,
+impl From<Reply<intervals::reading::Found>> for Found {
+    ghost from_gives = { λ reply found. let answer = reply.answer in
+        found ≡ found_by (verdict answer) (Intervals.next_in answer) (Intervals.number_in answer) (Intervals.kind_in answer) };
+
+    fn from(reply: Reply<intervals::reading::Found>) -> Found {
+        match reply.answer {
+            Ok(found) => Found {
+                number: 0,
+                next: found.next as u64,
+                entry: found.number,
+                kind: found.kind as u32,
+            },
+            Err(refusal) => Found {
+                number: refusal.number(),
+                next: 0,
+                entry: 0,
+                kind: 0,
+            },
+        }
+    }
+}
+
+impl From<Reply<usize>> for Rewritten {
+    ghost from_gives = { λ reply rewritten. rewritten ≡ rewritten_by (verdict reply.answer) (Rewriting.next_in reply.answer) };
+
+    fn from(reply: Reply<usize>) -> Rewritten {
+        Rewritten {
+            number: number_in(reply.answer),
+            next: reply.answer.unwrap_or(0) as u64,
+        }
+    }
+}
+
+impl From<Reply<Draw>> for Drawn {
+    ghost from_gives = { λ reply drawn. let answer = reply.answer in
+        drawn ≡ drawn_by (verdict answer) (Synthetic.seed_in answer) (Synthetic.number_in answer) (Synthetic.kind_in answer) };
+
+    fn from(reply: Reply<Draw>) -> Drawn {
+        match reply.answer {
+            Ok(draw) => Drawn {
+                number: 0,
+                seed: draw.seed,
+                entry: draw.number,
+                kind: draw.kind as u32,
+            },
+            Err(refusal) => Drawn {
+                number: refusal.number(),
+                seed: 0,
+                entry: 0,
+                kind: 0,
+            },
+        }
+    }
+}
+
+impl From<Reply<u16>> for Left {
+    ghost from_gives = { λ reply left. left ≡ left_by (verdict reply.answer) (Planning.intervals_in reply.answer) };
+
+    fn from(reply: Reply<u16>) -> Left {
+        Left {
+            number: number_in(reply.answer),
+            intervals: reply.answer.unwrap_or(0) as u32,
+        }
+    }
+}
+
+impl From<Reply<Option<usize>>> for Billed {
+    ghost from_gives = { λ reply billed. let answer = reply.answer in
+        billed ≡ billed_by (verdict answer) (Billing.right_in answer) (Billing.line_in answer) };
+
+    fn from(reply: Reply<Option<usize>>) -> Billed {
+        match reply.answer {
+            Ok(None) => Billed {
+                number: 0,
+                place: 0,
+                right: 1,
+                line: 0,
+            },
+            Ok(Some(first)) => Billed {
+                number: 0,
+                place: 0,
+                right: 0,
+                line: first as u64,
+            },
+            Err(refusal) => Billed {
+                number: refusal.number(),
+                place: refusal.place() as u64,
+                right: 0,
+                line: 0,
+            },
+        }
+    }
+}
+
+impl From<schedule::Answer> for Rows {
+    ghost from_gives = { λ answer rows. rows_of rows ≡ answered answer };
+
+    fn from(answer: schedule::Answer) -> Rows {
+        let making = answer.making;
+        let weekday = answer.weekday;
+        let weekend = answer.weekend;
+        Rows {
+            number: number_of(making),
+            place: place_of(making) as u64,
+            weekday,
+            weekend,
+        }
     }
 }
 
 // The paper's number of what became of a schedule: 0 is one that was made.
-fn number_of(making: Making) -> u32
+fn number_of(making: Result<(), schedule::Refusal>) -> u32
     ensures { result ≡ (verdict_of making).number }
 {
     match making {
-        Making::Made => 0,
-        Making::Sizes => 31,
-        Making::Kinds => 32,
-        Making::Limits => 19,
-        Making::Price(_) => 16,
+        Ok(()) => 0,
+        Err(schedule::Refusal::Sizes) => 31,
+        Err(schedule::Refusal::Kinds) => 32,
+        Err(schedule::Refusal::Limits) => 19,
+        Err(schedule::Refusal::Price(_)) => 16,
     }
 }
 
-fn place_of(making: Making) -> usize
+fn place_of(making: Result<(), schedule::Refusal>) -> usize
     ensures { result ≡ (verdict_of making).place }
 {
     match making {
-        Making::Made => 0,
-        Making::Sizes => 0,
-        Making::Kinds => 0,
-        Making::Limits => 0,
-        Making::Price(place) => place,
+        Ok(()) => 0,
+        Err(schedule::Refusal::Sizes) => 0,
+        Err(schedule::Refusal::Kinds) => 0,
+        Err(schedule::Refusal::Limits) => 0,
+        Err(schedule::Refusal::Price(place)) => place,
     }
 }

@@ -9,4 +9,4 @@ returns c =
     let bill : Bill = (let a = c.args in
     bill_of a.records.now a.schedule.now a.region (lines_of a.numbers.now a.energy.now a.prices.now a.amounts.now)) in
     let a = c.args in
-    bill-by c.billed_of.result a.book a.ring.now a.work.now (bill) c.billed_of.ensures c.check_bill-checked.ensures
+    bill-by c.from.result a.book a.ring.now a.work.now (bill) c.from.ensures c.check_bill.ensures

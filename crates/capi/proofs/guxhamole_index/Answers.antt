@@ -12,19 +12,19 @@ use Rattle.capi.proofs.guxhamole_index.Goals as goal
 
 pub overflow_cast-result : goal.overflow_cast-result
 overflow_cast-result c =
-    let small : c.in-Dollars.dollars ≤ 4000000000000000 = (let i = c.indexed-answer in
-    rw (dollars-are c.indexed-answer.result c.indexed-answer.ensures c.in-Dollars.dollars c.in-Dollars.is) (dollars-most _ _ _ _)) in
+    let small : c.in-Ok.dollars ≤ 4000000000000000 = (let i = c.indexed-answer in
+    rw (dollars-are c.indexed-answer.result c.indexed-answer.ensures c.in-Ok.dollars c.in-Ok.is) (dollars-most _ _ _ _)) in
     abs-fits w64 _ (omega (arith, small))
 
-pub returns-in-Dollars : goal.returns-in-Dollars
+pub returns-in-Ok : goal.returns-in-Ok
 unfolding index_answer
-returns-in-Dollars c =
-    let small : c.in-Dollars.dollars ≤ 4000000000000000 = (let i = c.indexed-answer in
-    rw (dollars-are c.indexed-answer.result c.indexed-answer.ensures c.in-Dollars.dollars c.in-Dollars.is) (dollars-most _ _ _ _)) in
+returns-in-Ok c =
+    let small : c.in-Ok.dollars ≤ 4000000000000000 = (let i = c.indexed-answer in
+    rw (dollars-are c.indexed-answer.result c.indexed-answer.ensures c.in-Ok.dollars c.in-Ok.is) (dollars-most _ _ _ _)) in
     let i = c.indexed-answer in
-    to_z_pos w64 (omega (arith, small)) ∙ in-dollars c.indexed-answer.result c.indexed-answer.ensures _ c.in-Dollars.is
+    to_z_pos w64 (omega (arith, small)) ∙ in-dollars c.indexed-answer.result c.indexed-answer.ensures _ c.in-Ok.is
 
-pub returns-in-OutOfRange : goal.returns-in-OutOfRange
+pub returns-in-Err : goal.returns-in-Err
 unfolding index_answer
-returns-in-OutOfRange c =
-    let i = c.indexed-answer in out_of_range c.indexed-answer.result c.indexed-answer.ensures c.in-OutOfRange.is
+returns-in-Err c =
+    let i = c.indexed-answer in out_of_range c.indexed-answer.result c.indexed-answer.ensures _ c.in-Err.is

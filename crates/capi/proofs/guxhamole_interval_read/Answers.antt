@@ -6,5 +6,5 @@ use Rattle.capi.proofs.guxhamole_interval_read.Goals as goal
 pub returns : goal.returns
 returns c =
     let a = c.args in
-    read_by c.found_of.result a.book a.records.now a.at
-    (interval_of 0 0 a.prices.now a.marks.now a.flows.now a.factors.now) c.found_of.ensures c.read_interval-taken.ensures
+    read_by c.from.result a.book a.records.now a.at
+    (interval_of 0 0 a.prices.now a.marks.now a.flows.now a.factors.now) c.from.ensures c.read_interval.ensures

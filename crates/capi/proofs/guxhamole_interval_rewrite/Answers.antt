@@ -5,5 +5,5 @@ use Rattle.capi.proofs.guxhamole_interval_rewrite.Goals as goal
 pub returns : goal.returns
 returns c =
     let a = c.args in
-    rewrite-by c.rewritten_of.result a.book a.records.now a.at a.buffer.now
-    c.rewritten_of.ensures c.rewrite_interval-rewritten.ensures
+    rewrite-by c.from.result a.book a.records.now a.at a.buffer.now
+    c.from.ensures c.rewrite_interval.ensures

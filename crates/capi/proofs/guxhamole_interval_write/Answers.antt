@@ -6,6 +6,6 @@ use Rattle.capi.proofs.guxhamole_interval_write.Goals as goal
 pub returns : goal.returns
 returns c =
     let a = c.args in
-    write-by c.interval_of.result a.book
+    write-by c.from.result a.book
     (interval_of a.entry a.kind a.prices.now a.marks.now a.flows.now a.factors.now) a.buffer.now
-    c.interval_of.ensures c.write_interval-written.ensures
+    c.from.ensures c.write_interval.ensures

@@ -10,5 +10,5 @@ pub returns : goal.returns
 returns c =
     let a = c.args in
     let f : SFits w32 a.price = search rules in
-    left_by-is c.left_of.result a.book a.ring.now a.region a.market a.price c.left_of.ensures
-    (rw (to_z-of_z f) at c.intervals_left-planned.ensures)
+    left_by-is c.from.result a.book a.ring.now a.region a.market a.price c.from.ensures
+    (rw (to_z-of_z f) at c.intervals_left.ensures)

@@ -7,5 +7,5 @@ use Rattle.capi.proofs.guxhamole_report.Goals as goal
 pub returns : goal.returns
 returns c =
     let a = c.args in
-    seen_by-is c.seen_of.result a.book a.region a.market c.seen_of.ensures
-    (ap (λ (o : Outcome). o.numbers) c.report-reported.ensures)
+    seen_by-is c.from.result a.book a.region a.market c.from.ensures
+    (ap (λ (o : Outcome). o.numbers) c.report.ensures)

@@ -6,5 +6,5 @@ use Rattle.capi.proofs.guxhamole_store.Goals as goal
 pub returns : goal.returns
 returns c =
     let a = c.args in
-    stored-by false a.book a.ring.now a.image.now c.written_of.result c.written_of.ensures
-    c.store_kind_1-stored.ensures
+    stored-by false a.book a.ring.now a.image.now c.from.result c.from.ensures
+    c.store_kind_1.ensures

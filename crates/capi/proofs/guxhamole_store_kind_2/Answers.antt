@@ -6,5 +6,5 @@ use Rattle.capi.proofs.guxhamole_store_kind_2.Goals as goal
 pub returns : goal.returns
 returns c =
     let a = c.args in
-    stored-by true a.book a.ring.now a.image.now c.written_of.result c.written_of.ensures
-    c.store_kind_2-stored.ensures
+    stored-by true a.book a.ring.now a.image.now c.from.result c.from.ensures
+    c.store_kind_2.ensures

@@ -6,5 +6,5 @@ use Rattle.capi.proofs.guxhamole_synthetic.Goals as goal
 pub returns : goal.returns
 returns c =
     let a = c.args in
-    synthesized-by c.drawn_of.result a.book a.seed a.entry a.kind
-    (interval_of 0 0 a.prices.now a.marks.now a.flows.now a.factors.now) c.drawn_of.ensures c.synthesize-made.ensures
+    synthesized-by c.from.result a.book a.seed a.entry a.kind
+    (interval_of 0 0 a.prices.now a.marks.now a.flows.now a.factors.now) c.from.ensures c.synthesize.ensures
