@@ -1,41 +1,30 @@
 // Amount texts, among them the ends of the range, and a buffer that is too short.
+ghost use Rattle.std.specs.Prelude.{◌≤◌};
+
 use amount::amount_text;
 
-pub fn amount(cents: i64) {
-    let mut buffer = [0u8; 24];
-    let text = amount_text(cents, &mut buffer);
-    io::write_all(1, text);
+// The part handed back of a buffer of N bytes: the text, or an empty part.
+fn amount<const N: usize>(cents: i64)
+    requires { N ≤ 24 }
+{
+    let mut buffer = [0u8; N];
+    io::write_all(1, amount_text(cents, &mut buffer));
 }
 
 pub fn price(cents: i32) {
     io::write_all(1, b" ");
-    amount(cents as i64);
-}
-
-fn show(cents: i64) {
-    amount(cents);
-    io::write_all(1, b"\n");
-}
-
-// The part handed back for a buffer of four bytes: the text, or an empty part.
-fn show_in_four(cents: i64) {
-    let mut buffer = [0u8; 4];
-    let text = amount_text(cents, &mut buffer);
-    io::write_all(1, b"[");
-    io::write_all(1, text);
-    io::write_all(1, b"]\n");
+    amount::<24>(i64::from(cents));
 }
 
 pub fn all() {
     io::write_all(1, b"amount text\n");
-    show(0);
-    show(-5);
-    show(99);
-    show(-100);
-    show(1234567);
-    show(9223372036854775807);
-    show(-9223372036854775808);
-    show_in_four(999);
-    show_in_four(1000);
-    show_in_four(-1);
+    for cents in [0, -5, 99, -100, 1234567, i64::MAX, i64::MIN] {
+        amount::<24>(cents);
+        io::write_all(1, b"\n");
+    }
+    for cents in [999, 1000, -1] {
+        io::write_all(1, b"[");
+        amount::<4>(cents);
+        io::write_all(1, b"]\n");
+    }
 }

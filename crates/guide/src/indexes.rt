@@ -1,12 +1,12 @@
 // Indexed amounts: rounding at the half, last year's amount, the ranges.
-use pricing::indexing::{Answer, Quarters, indexed};
+use pricing::indexing::{OutOfRange, Quarters, indexed};
 
-fn show(answer: Answer) {
+fn show(answer: Result<u64, OutOfRange>) {
     match answer {
-        Answer::Dollars(dollars) => {
+        Ok(dollars) => {
             io::print_decimal(1, dollars);
         }
-        Answer::OutOfRange => {
+        Err(OutOfRange) => {
             io::write_all(1, b"refused 30");
         }
     }

@@ -1,5 +1,7 @@
 // The nine cases of request 2026-03: schedules from one pass over the four weeks, where kinds change, at the first and the last price,
 // and with prices out of range in one place, in two and in all.
+ghost use Rattle.std.specs.Prelude.{◌<◌};
+
 use crate::schedules::show;
 use schedule::schedule;
 
@@ -19,47 +21,29 @@ fn energy(prices: &[i32; 168], weekend: usize) {
 }
 
 // 1,000 × (kind + 1) + 100 × half-hour + interval + day cents, two half-hours a day, weekday and weekend by turns.
-fn cents_at(k: usize) -> i32 {
-    if k > 335 {
-        return 0;
-    }
-    let first = 1000 * (k / 12 % 2 + 1) + 100 * (k % 12 / 6);
-    (first + k % 6 + k / 12) as i32
-}
-
 fn four_weeks() -> [i32; 336] {
     let mut prices = [0i32; 336];
-    let mut k: usize = 0;
-    while k < 336 {
-        prices[k] = cents_at(k);
-        k += 1;
+    for k in 0..336 {
+        let day = k / 12;
+        prices[k] = (1000 * (day % 2 + 1) + 100 * (k % 12 / 6) + k % 6 + day) as i32;
     }
     prices
 }
 
-fn turns() -> [u8; 28] {
-    [
-        0, 1, 0, 1, 0, 1, 0, 1, 0, 1, 0, 1, 0, 1, 0, 1, 0, 1, 0, 1, 0, 1, 0, 1, 0, 1, 0, 1,
-    ]
-}
-
 // 1. Means of 1,015.5 and 1,115.5 cents, and of 2,016.5 and 2,116.5. The totals and counts after three days are in crates/schedule.
 fn by_turns() {
-    show(schedule(2, 60000, -60000, true, &four_weeks(), &turns()), 3);
+    let mut kinds = [0u8; 28];
+    for day in 0..14 {
+        kinds[2 * day + 1] = 1;
+    }
+    show(schedule(2, 60000, -60000, true, &four_weeks(), &kinds), 3);
 }
 
 // The six prices of a day, one half-hour long.
-fn put_day(prices: &mut [i32; 168], day: usize, even: i32, odd: i32) {
-    if day > 27 {
-        return;
-    }
-    let from = 6 * day;
-    prices[from] = even;
-    prices[from + 1] = odd;
-    prices[from + 2] = even;
-    prices[from + 3] = odd;
-    prices[from + 4] = even;
-    prices[from + 5] = odd;
+fn put_day(prices: &mut [i32; 168], day: usize, even: i32, odd: i32)
+    requires { day < 28 }
+{
+    prices[6 * day..6 * day + 6].copy_from_slice(&[even, odd, even, odd, even, odd]);
 }
 
 // 2. The last day alone is a weekend: 15 / 162 of a cent, and 2.5. 3. The first day alone is: 0, and −2.5.

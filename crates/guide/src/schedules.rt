@@ -1,6 +1,8 @@
 // Schedules of one market from 28 days of prices: one half-hour a day and the refusals, then two, three and 48 half-hours.
+ghost use Rattle.std.specs.Prelude.{◌<◌, ◌≤◌, ◌*◌};
+
 use crate::amounts::price;
-use schedule::{Answer, Making, schedule};
+use schedule::{Answer, Refusal, schedule};
 
 fn refused(number: u64, place: usize) {
     io::write_all(1, b"refused ");
@@ -10,26 +12,22 @@ fn refused(number: u64, place: usize) {
 }
 
 // That the schedule is made, or the refusal.
-fn show_making(making: Making) {
+fn show_making(making: Result<(), Refusal>) {
     match making {
-        Making::Made => {
+        Ok(()) => {
             io::write_all(1, b"made");
         }
-        Making::Sizes => refused(31, 0),
-        Making::Kinds => refused(32, 0),
-        Making::Limits => refused(19, 0),
-        Making::Price(place) => refused(16, place),
+        Err(Refusal::Sizes) => refused(31, 0),
+        Err(Refusal::Kinds) => refused(32, 0),
+        Err(Refusal::Limits) => refused(19, 0),
+        Err(Refusal::Price(place)) => refused(16, place),
     }
 }
 
 // The first prices of a row.
 fn show_row(row: &[i32; 48], places: usize) {
-    let mut k: usize = 0;
-    while k < 48 {
-        if k < places {
-            price(row[k]);
-        }
-        k += 1;
+    for cents in row.iter().take(places) {
+        price(*cents);
     }
 }
 
@@ -48,9 +46,7 @@ pub fn show(answer: Answer, places: usize) {
 // One weekday of six prices, the first three `odd` and the others `even`, before 27 days of weekends at `even`.
 fn made(cap: i32, floor: i32, energy: bool, odd: i32, even: i32) {
     let mut prices = [even; 168];
-    prices[0] = odd;
-    prices[1] = odd;
-    prices[2] = odd;
+    prices[..3].fill(odd);
     let mut kinds = [1u8; 28];
     kinds[0] = 0;
     show(schedule(1, cap, floor, energy, &prices, &kinds), 2);
@@ -80,108 +76,50 @@ fn refusals() {
 }
 
 // Four weeks whose days 5 and 6 are weekends.
-fn weeks() -> [u8; 28] {
-    [
-        0, 0, 0, 0, 0, 1, 1, 0, 0, 0, 0, 0, 1, 1, 0, 0, 0, 0, 0, 1, 1, 0, 0, 0, 0, 0, 1, 1,
-    ]
-}
+const WEEKS: [u8; 28] = [
+    0, 0, 0, 0, 0, 1, 1, 0, 0, 0, 0, 0, 1, 1, 0, 0, 0, 0, 0, 1, 1, 0, 0, 0, 0, 0, 1, 1,
+];
 
-fn is_weekend(day: usize) -> bool {
-    if day >= 28 {
-        return false;
-    }
-    let kinds = weeks();
-    kinds[day] == 1
-}
-
-// The cents of a day's first half-hour, one more at some places.
-fn first_cents(weekend: bool, more: bool) -> u32 {
-    if weekend {
-        return if more { 1001 } else { 1000 };
-    }
-    if more { 101 } else { 100 }
-}
-
-// Ten cents more in each half-hour than in the one before.
-fn cents(first: u32, half: usize) -> u32 {
-    if first > 1001 {
-        return 0;
-    }
-    if half > 47 {
-        return 0;
-    }
-    first + 10 * (half as u32)
-}
-
-fn below_zero(n: u32) -> i32 {
-    if n > 10000 {
-        return 0;
-    }
-    -(n as i32)
-}
-
-fn above_zero(n: u32) -> i32 {
-    if n > 10000 {
-        return 0;
-    }
-    n as i32
-}
-
-// The price at a place: 100 + 10 × h cents in half-hour h of a weekday, 1,000 + 10 × h of a weekend, and a cent more at one place of `of`.
+// The price in half-hour `half` of a day: 100 + 10 × half cents on a weekday, 1,000 + 10 × half on a weekend, and one more.
 // The weekends' energy is below zero.
-fn price_at(place: usize, intervals: usize, of: usize, energy: bool) -> i32 {
-    if intervals == 0 {
-        return 0;
-    }
-    if of == 0 {
-        return 0;
-    }
-    let weekend = is_weekend(place / intervals);
-    let first = first_cents(weekend, place % of == 0);
-    let n = cents(first, place % intervals / 6);
-    if weekend & energy {
-        return below_zero(n);
-    }
-    above_zero(n)
+fn price_at(weekend: bool, half: usize, more: bool, energy: bool) -> i32
+    requires { half < 48 }
+{
+    let first = if weekend { 1000 } else { 100 };
+    let cents = first + 10 * half as i32 + i32::from(more);
+    if weekend & energy { -cents } else { cents }
 }
 
-fn fill(prices: &mut [i32], intervals: usize, of: usize, energy: bool) {
-    let mut k: usize = 0;
-    while k < prices.len() {
-        prices[k] = price_at(k, intervals, of, energy);
-        k += 1;
+// A schedule of H half-hours from N prices, with a cent more at every place of `of`; of its rows one place more than H is shown,
+// where there is one.
+fn four_weeks<const N: usize, const H: usize>(cap: i32, floor: i32, energy: bool, of: usize)
+    requires prices { N ≤ 28 * 6 * H }
+    requires halves { H ≤ 48 }
+    requires parts { (0 < H) × (0 < of) }
+{
+    let mut prices = [0i32; N];
+    for k in 0..N {
+        let day = k / (6 * H);
+        let half = k / 6 % H;
+        prices[k] = price_at(WEEKS[day] == 1, half, k % of == 0, energy);
     }
-}
-
-// H 2, a cent more at every second place: the means are 100.5 and 110.5 cents, and −1,000.5 and −1,010.5. Half away from zero: 101, 111,
-// −1,001, −1,011; the third place of each row is zero.
-fn two_half_hours() {
-    let mut prices = [0i32; 336];
-    fill(&mut prices, 12, 2, true);
-    show(schedule(2, 60000, -60000, true, &prices, &weeks()), 3);
-}
-
-// H 3, a service, a cent more at every third place: means of 100 1/3, 110 1/3, 120 1/3 and 1,000 1/3, 1,010 1/3, 1,020 1/3 cents, rounded
-// to whole ones; the last is held at the cap, 1,015.
-fn three_half_hours() {
-    let mut prices = [0i32; 504];
-    fill(&mut prices, 18, 3, false);
-    show(schedule(3, 1015, -1, false, &prices, &weeks()), 4);
-}
-
-// H 48, a cent more at every second place: 101 + 10 × h, in the last two half-hours (561 and 571) held at the cap, 560;
-// −1,001 − 10 × h, in the last two (−1,461 and −1,471) held at the floor, −1,460.
-fn a_day() {
-    let mut prices = [0i32; 8064];
-    fill(&mut prices, 288, 2, true);
-    show(schedule(48, 560, -1460, true, &prices, &weeks()), 48);
+    show(
+        schedule(H as u8, cap, floor, energy, &prices, &WEEKS),
+        H + 1,
+    );
 }
 
 pub fn all() {
     io::write_all(1, b"schedule\n");
     means();
     refusals();
-    two_half_hours();
-    three_half_hours();
-    a_day();
+    // A cent more at every second place: the means are 100.5 and 110.5 cents, and −1,000.5 and −1,010.5. Half away from zero: 101, 111,
+    // −1,001, −1,011; the third place of each row is zero.
+    four_weeks::<336, 2>(60000, -60000, true, 2);
+    // A service, a cent more at every third place: means of 100 1/3, 110 1/3, 120 1/3 and 1,000 1/3, 1,010 1/3, 1,020 1/3 cents, rounded
+    // to whole ones; the last is held at the cap, 1,015.
+    four_weeks::<504, 3>(1015, -1, false, 3);
+    // A cent more at every second place: 101 + 10 × half, in the last two half-hours (561 and 571) held at the cap, 560;
+    // −1,001 − 10 × half, in the last two (−1,461 and −1,471) held at the floor, −1,460.
+    four_weeks::<8064, 48>(560, -1460, true, 2);
 }

@@ -7,138 +7,126 @@
 //   s r k      the schedule, the book's ring and the second one from here on
 //   b          hold the lines against the records: region
 //   =          a heading to print; lines that begin with anything else are for the reader
-ghost use Rattle.std.specs.Prelude.{◌<◌};
+use arrayvec::ArrayVec;
+use billing::check_bill;
+use book::record::{Book, Refusal, closed};
+use stage::printing::{list, number, refusal, say, signed};
+use stage::reading::{fields, first_line, heading, numbers};
+use stage::records::{gather, opened};
 
-use billing::{Judgement, check_bill};
-use book::record::{Book, closed};
-use stage::printing::{number, refusal, say, signed};
-use stage::reading::{amounts, byte, heading, letter_at, numbers, signed_numbers, threshold};
-use stage::records::{bytes_within, gathered, opened};
+// The lines with what is lent.
+#[derive(Clone, Copy)]
+struct Lent<'a> {
+    intervals: &'a [u8],
+    energy: &'a [u8],
+    prices: &'a [u8],
+    charged: &'a [u8],
+    schedule: &'a [u8],
+    ring: &'a [u8],
+    work: &'a [u8],
+    parents: &'a [u8],
+}
 
-// The place among the lines with what is lent of a line with this letter; the last is of all others.
-fn lent_place(letter: u8) -> usize
-    ensures { result < 9 }
-{
-    match letter {
-        b'i' => 0,
-        b'e' => 1,
-        b'p' => 2,
-        b'm' => 3,
-        b's' => 4,
-        b'r' => 5,
-        b'k' => 6,
-        b'w' => 7,
-        _ => 8,
+impl<'a> Lent<'a> {
+    // Until a line says what is lent, it is the text's first line.
+    fn new(first: &'a [u8]) -> Lent<'a> {
+        Lent {
+            intervals: first,
+            energy: first,
+            prices: first,
+            charged: first,
+            schedule: first,
+            ring: first,
+            work: first,
+            parents: first,
+        }
+    }
+
+    // Takes a line that says what is lent from here on.
+    fn take(&mut self, letter: u8, line: &'a [u8]) {
+        match letter {
+            b'i' => self.intervals = line,
+            b'e' => self.energy = line,
+            b'p' => self.prices = line,
+            b'm' => self.charged = line,
+            b's' => self.schedule = line,
+            b'r' => self.ring = line,
+            b'k' => self.work = line,
+            b'w' => self.parents = line,
+            _ => {}
+        }
     }
 }
 
-fn told(judgement: Judgement) {
+fn told(answer: Result<Option<usize>, Refusal>) {
     say(b"bill");
-    match judgement {
-        Judgement::Right => say(b" right"),
-        Judgement::Wrong(line) => {
+    match answer {
+        Ok(None) => say(b" right"),
+        Ok(Some(line)) => {
             say(b" wrong line");
             number(line as u64);
         }
-        Judgement::Refused(r) => refusal(r),
+        Err(r) => refusal(r),
     }
 }
 
-// The first places of the second ring.
-fn ring_list(list: &[i32; 4], places: usize) {
-    say(b"; second ring");
-    let mut k: usize = 0;
-    while k < 4 {
-        if k < places {
-            signed(list[k]);
-        }
-        k += 1;
-    }
-    say(b"\n");
-}
-
-// A bill that is lent what the lines say.
-fn billed(book: Book, records: &[u8], text: &[u8], at: usize, lent: [usize; 9]) -> Book {
-    let mut region = [0u32; 1];
-    let mut intervals = [0u32; 4];
-    let mut energy = [0u32; 4];
-    let mut prices = [0i32; 4];
-    let mut charged = [0i64; 4];
-    let mut schedule = [0i32; 8];
-    let mut ring = [0i32; 4];
-    let mut work = [0i32; 4];
-    numbers(text, at, &mut region);
-    let i = numbers(text, lent[0], &mut intervals);
-    let e = numbers(text, lent[1], &mut energy);
-    let p = signed_numbers(text, lent[2], &mut prices);
-    let m = amounts(text, lent[3], &mut charged);
-    let s = signed_numbers(text, lent[4], &mut schedule);
-    let r = signed_numbers(text, lent[5], &mut ring);
-    let k = signed_numbers(text, lent[6], &mut work);
+// A bill that is lent what the lines say, and what the second ring then holds.
+fn billed(book: Book, records: &[u8], line: &[u8], lent: Lent) -> Book {
+    let [region] = fields::<u32, 1>(line, 0);
+    let intervals = numbers::<u32, 4>(lent.intervals);
+    let energy = numbers::<u32, 4>(lent.energy);
+    let prices = numbers::<i32, 4>(lent.prices);
+    let charged = numbers::<i64, 4>(lent.charged);
+    let schedule = numbers::<i32, 8>(lent.schedule);
+    let ring = numbers::<i32, 4>(lent.ring);
+    let mut work = numbers::<i32, 4>(lent.work);
     let checked = check_bill(
         book,
-        &ring[..r],
-        &mut work[..k],
+        ring.as_slice(),
+        work.as_mut_slice(),
         records,
-        &schedule[..s],
-        region[0],
-        &intervals[..i],
-        &energy[..e],
-        &prices[..p],
-        &charged[..m],
+        schedule.as_slice(),
+        region,
+        intervals.as_slice(),
+        energy.as_slice(),
+        prices.as_slice(),
+        charged.as_slice(),
     );
-    let judgement = checked.judgement;
-    told(judgement);
-    ring_list(&work, k);
+    told(checked.answer);
+    list(b"; second ring", work.as_slice(), signed);
+    say(b"\n");
     checked.book
 }
 
-fn changed(book: Book, text: &[u8], at: usize) -> Book {
-    let mut n = [0u32; 2];
-    numbers(text, at, &mut n);
-    let mut counts = book.counts;
-    let mut sums = book.sums;
-    counts[0] = byte(n[1]) as u16;
-    sums[0] = threshold(text, at, 2);
+fn changed(book: Book, line: &[u8]) -> Book {
+    let [entries] = fields::<u32, 1>(line, 0);
+    let [_, counted] = fields::<u8, 2>(line, 0);
+    let [_, _, sum] = fields::<i64, 3>(line, 0);
     let mut after = book;
-    after.entries = n[0];
-    after.counts = counts;
-    after.sums = sums;
+    after.entries = entries;
+    after.counts[0] = u16::from(counted);
+    after.sums[0] = sum;
     after
 }
 
-// The book after a line.
-fn called(
-    book: Book,
-    records: &[u8],
-    n: usize,
-    letter: u8,
-    text: &[u8],
-    at: usize,
-    lent: [usize; 9],
-) -> Book {
-    let end = bytes_within(n, records);
-    match letter {
-        b'o' => opened(text, at, lent[7]),
-        b'c' => closed(),
-        b'f' => changed(book, text, at),
-        b'b' => billed(book, &records[..end], text, at, lent),
-        _ => book,
-    }
-}
-
 pub fn play(text: &[u8]) {
-    let mut records = [0u8; 256];
-    let mut lent = [0usize; 9];
-    let mut n: usize = 0;
+    let (first, rest) = first_line(text);
+    let mut lent = Lent::new(first);
+    let mut records = ArrayVec::new();
     let mut book = closed();
-    let mut at: usize = 0;
-    while at < text.len() {
-        let letter = letter_at(text, at);
-        heading(letter, text, at);
-        lent[lent_place(letter)] = at;
-        n = gathered(letter, text, at, &mut records, n);
-        book = called(book, &records, n, letter, text, at, lent);
-        at += 1;
+    for line in rest.split(|b| *b == b'\n') {
+        let Some((letter, line)) = line.split_first() else {
+            continue;
+        };
+        heading(*letter, line);
+        gather(*letter, line, &mut records);
+        lent.take(*letter, line);
+        match *letter {
+            b'o' => book = opened(line, lent.parents),
+            b'c' => book = closed(),
+            b'f' => book = changed(book, line),
+            b'b' => book = billed(book, records.as_slice(), line, lent),
+            _ => {}
+        }
     }
 }

@@ -11,46 +11,60 @@
 //   b          break the ring and the first sum, as others might; v: view that sum
 //   j          put a number into a place of the ring, as others might
 //   =          a heading to print; lines that begin with anything else are for the reader
-ghost use Rattle.std.specs.Prelude.{◌<◌};
-
-use book::record::{Book, Settings, closed};
+use book::record::{Book, Refusal, Reply, Settings, closed};
 use book_calls::opening::open;
 use book_calls::report::report;
 use book_calls::setting::{set_limits, set_threshold};
-use codec::bits32;
-use entries::enter;
+use entries::{Entry, enter};
 use image::loading::load;
 use image::storing::store_kind_2;
-use planning::{Left, intervals_left};
+use planning::intervals_left;
 use stage::printing::{amount, answered, number, published, refusal, reported, say};
-use stage::reading::{
-    byte, bytes, heading, letter_at, numbers, settings, signed_numbers, size, threshold, within,
-};
+use stage::reading::{fields, first_line, heading, numbers, settings};
 
-// The place among the lines with what is lent of a line with this letter; the last is of all others.
-fn lent_place(letter: u8) -> usize
-    ensures { result < 8 }
-{
-    match letter {
-        b'p' => 0,
-        b'm' => 1,
-        b'f' => 2,
-        b'l' => 3,
-        b's' => 4,
-        b'w' => 5,
-        b'a' => 6,
-        _ => 7,
+// The lines with what calls are lent.
+#[derive(Clone, Copy)]
+struct Lines<'a> {
+    prices: &'a [u8],
+    marks: &'a [u8],
+    flows: &'a [u8],
+    factors: &'a [u8],
+    schedule: &'a [u8],
+    parents: &'a [u8],
+    ring: &'a [u8],
+}
+
+impl<'a> Lines<'a> {
+    // Until a line says what is lent, it is the text's first line.
+    fn new(first: &'a [u8]) -> Lines<'a> {
+        Lines {
+            prices: first,
+            marks: first,
+            flows: first,
+            factors: first,
+            schedule: first,
+            parents: first,
+            ring: first,
+        }
+    }
+
+    // Takes a line that says what calls are lent from here on.
+    fn take(&mut self, letter: u8, line: &'a [u8]) {
+        match letter {
+            b'p' => self.prices = line,
+            b'm' => self.marks = line,
+            b'f' => self.flows = line,
+            b'l' => self.factors = line,
+            b's' => self.schedule = line,
+            b'w' => self.parents = line,
+            b'a' => self.ring = line,
+            _ => {}
+        }
     }
 }
 
-fn first_number(text: &[u8], at: usize) -> usize {
-    let mut list = [0u32; 1];
-    numbers(text, at, &mut list);
-    size(list[0])
-}
-
-fn opened(ring: &mut [i32], text: &[u8], at: usize, parents_at: usize) -> Book {
-    let o = open(settings(text, at, parents_at), ring);
+fn opened(ring: &mut [i32], line: &[u8], parents: &[u8]) -> Book {
+    let o = open(settings(line, parents), ring);
     let answer = o.answer;
     answered(b"open", answer);
     o.book
@@ -66,9 +80,9 @@ fn imaged(settings: Settings, ring: &mut [i32], image: &mut [u8]) {
     store_kind_2(book, ring, image);
 }
 
-fn loaded(ring: &mut [i32], text: &[u8], at: usize, parents_at: usize) -> Book {
+fn loaded(ring: &mut [i32], line: &[u8], parents: &[u8]) -> Book {
     let mut image = [0u8; 156];
-    imaged(settings(text, at, parents_at), ring, &mut image);
+    imaged(settings(line, parents), ring, &mut image);
     let l = load(&image, ring);
     let answer = l.answer;
     answered(b"image", answer);
@@ -76,87 +90,74 @@ fn loaded(ring: &mut [i32], text: &[u8], at: usize, parents_at: usize) -> Book {
 }
 
 // An entry that is lent what the lines say, and a table as long as its prices.
-fn entered(book: Book, ring: &mut [i32], text: &[u8], at: usize, lent: [usize; 8]) -> Book {
-    let mut n = [0u32; 2];
-    let mut prices = [0i32; 16];
-    let mut marks = [0u8; 8];
-    let mut flows = [0i32; 9];
-    let mut factors = [0u32; 9];
-    let mut schedule = [0i32; 32];
-    numbers(text, at, &mut n);
-    let p = signed_numbers(text, lent[0], &mut prices);
-    let m = bytes(text, lent[1], &mut marks);
-    let f = signed_numbers(text, lent[2], &mut flows);
-    let l = numbers(text, lent[3], &mut factors);
-    let s = signed_numbers(text, lent[4], &mut schedule);
-    let mut table = prices;
-    let e = enter(
-        book,
-        ring,
-        n[0],
-        byte(n[1]),
-        &prices[..p],
-        &marks[..m],
-        &flows[..f],
-        &factors[..l],
-        &schedule[..s],
-        &mut table[..p],
-    );
-    let publication = e.publication;
-    published(publication, &table, p);
+fn entered(book: Book, ring: &mut [i32], line: &[u8], lines: Lines) -> Book {
+    let [number] = fields::<u32, 1>(line, 0);
+    let [_, kind] = fields::<u8, 2>(line, 0);
+    let prices = numbers::<i32, 16>(lines.prices);
+    let marks = numbers::<u8, 8>(lines.marks);
+    let flows = numbers::<i32, 9>(lines.flows);
+    let factors = numbers::<u32, 9>(lines.factors);
+    let schedule = numbers::<i32, 32>(lines.schedule);
+    let mut table = numbers::<i32, 16>(lines.prices);
+    let entry = Entry {
+        kind,
+        prices: prices.as_slice(),
+        marked: marks.as_slice(),
+        flows: flows.as_slice(),
+        factors: factors.as_slice(),
+        schedule: schedule.as_slice(),
+    };
+    let e = enter(book, ring, number, &entry, table.as_mut_slice());
+    let publication = e.answer;
+    published(publication, table.as_slice());
     e.book
 }
 
-fn set(book: Book, cents: i64) -> Book {
-    let c = set_threshold(book, cents);
-    let answer = c.answer;
-    answered(b"threshold", answer);
-    c.book
+// The book after a setting.
+fn set(call: &[u8], changed: Reply<()>) -> Book {
+    let answer = changed.answer;
+    answered(call, answer);
+    changed.book
 }
 
-fn limits(book: Book, cap: i32, floor: i32) -> Book {
-    let c = set_limits(book, cap, floor);
-    let answer = c.answer;
-    answered(b"limits", answer);
-    c.book
-}
-
-fn shown(book: Book, text: &[u8], at: usize) -> Book {
-    let mut n = [0u32; 2];
-    numbers(text, at, &mut n);
-    let r = report(book, n[0], n[1]);
-    let reading = r.reading;
+fn shown(book: Book, line: &[u8]) -> Book {
+    let [region, market] = fields::<u32, 2>(line, 0);
+    let r = report(book, region, market);
+    let reading = r.answer;
     reported(reading);
     r.book
 }
 
 // How many intervals are left, or the refusal.
-fn print_left(left: Left) {
+fn print_left(left: Result<u16, Refusal>) {
     say(b"left");
     match left {
-        Left::Intervals(n) => number(n as u64),
-        Left::Refused(r) => refusal(r),
+        Ok(n) => number(n as u64),
+        Err(r) => refusal(r),
     }
     say(b"\n");
 }
 
-fn questioned(book: Book, ring: &[i32], text: &[u8], at: usize) -> Book {
-    let mut z = [0i32; 3];
-    signed_numbers(text, at, &mut z);
-    let p = intervals_left(book, ring, bits32(z[0]), bits32(z[1]), z[2]);
-    let left = p.left;
+fn questioned(book: Book, ring: &[i32], line: &[u8]) -> Book {
+    let [region, market, price] = fields::<i32, 3>(line, 0);
+    let p = intervals_left(
+        book,
+        ring,
+        region.cast_unsigned(),
+        market.cast_unsigned(),
+        price,
+    );
+    let left = p.answer;
     print_left(left);
     p.book
 }
 
-fn put_place(book: Book, ring: &mut [i32], text: &[u8], at: usize) -> Book {
-    let mut z = [0i32; 2];
-    signed_numbers(text, at, &mut z);
-    let place = size(bits32(z[0]));
+fn put_place(ring: &mut [i32], line: &[u8]) {
+    let [place, number] = fields::<i32, 2>(line, 0);
+    let place = place.cast_unsigned() as usize;
     if place < ring.len() {
-        ring[place] = z[1];
+        ring[place] = number;
     }
-    book
 }
 
 // A book whose first sum is at its bound, and a ring whose first place holds the least number.
@@ -164,62 +165,61 @@ fn broken(before: Book, ring: &mut [i32]) -> Book {
     let mut book = before;
     book.sums[0] = 20160000000;
     if ring.len() > 0 {
-        ring[0] = -2147483648;
+        ring[0] = i32::MIN;
     }
     book
 }
 
-fn first_sum(book: Book) -> Book {
+fn view_sum(book: Book) {
     amount(book.sums[0]);
     say(b"\n");
-    book
 }
 
-// The book after a line that is lent nothing: a setting, a report, the sum.
-fn asked(book: Book, letter: u8, text: &[u8], at: usize) -> Book {
-    let mut z = [0i32; 2];
-    signed_numbers(text, at, &mut z);
+// The book after a line that is lent nothing: a setting, a report.
+fn asked(book: Book, letter: u8, line: &[u8]) -> Book {
     match letter {
-        b't' => set(book, threshold(text, at, 0)),
-        b'c' => limits(book, z[0], z[1]),
-        b'r' => shown(book, text, at),
-        b'v' => first_sum(book),
+        b't' => {
+            let [threshold] = fields::<i64, 1>(line, 0);
+            set(b"threshold", set_threshold(book, threshold))
+        }
+        b'c' => {
+            let [cap, floor] = fields::<i32, 2>(line, 0);
+            set(b"limits", set_limits(book, cap, floor))
+        }
+        b'r' => shown(book, line),
         _ => book,
     }
 }
 
 // The book after a line.
-fn called(
-    book: Book,
-    places: &mut [i32],
-    letter: u8,
-    text: &[u8],
-    at: usize,
-    lent: [usize; 8],
-) -> Book {
-    let n = within(first_number(text, lent[6]), places);
-    let ring = &mut places[..n];
+fn called(book: Book, ring: &mut [i32], letter: u8, line: &[u8], lines: Lines) -> Book {
     match letter {
-        b'o' => opened(ring, text, at, lent[5]),
-        b'i' => loaded(ring, text, at, lent[5]),
-        b'e' => entered(book, ring, text, at, lent),
-        b'q' => questioned(book, ring, text, at),
-        b'j' => put_place(book, ring, text, at),
+        b'o' => opened(ring, line, lines.parents),
+        b'i' => loaded(ring, line, lines.parents),
+        b'e' => entered(book, ring, line, lines),
+        b'q' => questioned(book, ring, line),
         b'b' => broken(book, ring),
-        _ => asked(book, letter, text, at),
+        _ => asked(book, letter, line),
     }
 }
 
 pub fn play(text: &[u8]) {
-    let mut ring = [7i32; 16];
-    let mut lent = [0usize; 8];
+    let (first, rest) = first_line(text);
+    let mut lines = Lines::new(first);
+    let mut places = [7i32; 16];
     let mut book = closed();
-    let mut at: usize = 0;
-    while at < text.len() {
-        let letter = letter_at(text, at);
-        heading(letter, text, at);
-        lent[lent_place(letter)] = at;
-        book = called(book, &mut ring, letter, text, at, lent);
-        at += 1;
+    for line in rest.split(|b| *b == b'\n') {
+        let Some((letter, line)) = line.split_first() else {
+            continue;
+        };
+        heading(*letter, line);
+        lines.take(*letter, line);
+        let [lent] = fields::<u32, 1>(lines.ring, 0);
+        let ring = &mut places[..(lent as usize).min(16)];
+        match *letter {
+            b'j' => put_place(ring, line),
+            b'v' => view_sum(book),
+            _ => book = called(book, ring, *letter, line, lines),
+        }
     }
 }

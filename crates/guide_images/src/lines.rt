@@ -9,33 +9,47 @@
 //   c          check so many bytes of the image
 //   l          load so many bytes of the image, and go on with that book
 //   =          a heading to print; lines that begin with anything else are for the reader
-ghost use Rattle.std.specs.Prelude.{◌<◌};
-
-use book::record::{Answer, Book, closed, ring_size};
+use book::record::{Book, Refusal, Reply, closed, ring_size};
 use book_calls::opening::open;
-use entries::enter;
+use entries::{Entry, enter};
 use image::loading::{check, load};
-use image::storing::{Image, Stored, store_kind_1, store_kind_2};
-use stage::printing::{answered, number, published, refusal, say};
-use stage::reading::{byte, heading, letter_at, numbers, settings, signed_numbers, size, within};
-use stage::records::bytes_within;
+use image::storing::{store_kind_1, store_kind_2};
+use stage::printing::{answered, byte_list, number, published, refusal, say};
+use stage::reading::{fields, first_line, heading, numbers, settings};
 
-// The place among the lines with what is lent of a line with this letter; the last is of all others.
-fn lent_place(letter: u8) -> usize
-    ensures { result < 4 }
-{
-    match letter {
-        b'p' => 0,
-        b'f' => 1,
-        b'w' => 2,
-        _ => 3,
+// The lines with what calls are lent.
+#[derive(Clone, Copy)]
+struct Lines<'a> {
+    prices: &'a [u8],
+    factors: &'a [u8],
+    parents: &'a [u8],
+}
+
+impl<'a> Lines<'a> {
+    // Until a line says what is lent, it is the text's first line.
+    fn new(first: &'a [u8]) -> Lines<'a> {
+        Lines {
+            prices: first,
+            factors: first,
+            parents: first,
+        }
+    }
+
+    // Takes a line that says what calls are lent from here on.
+    fn take(&mut self, letter: u8, line: &'a [u8]) {
+        match letter {
+            b'p' => self.prices = line,
+            b'f' => self.factors = line,
+            b'w' => self.parents = line,
+            _ => {}
+        }
     }
 }
 
 // Over the ring that it asks for.
-fn opened(places: &mut [i32], text: &[u8], at: usize, parents_at: usize) -> Book {
-    let s = settings(text, at, parents_at);
-    let n = within(ring_size(s.regions, s.services, s.window), places);
+fn opened(places: &mut [i32; 8], line: &[u8], parents: &[u8]) -> Book {
+    let s = settings(line, parents);
+    let n = ring_size(s.regions, s.services, s.window).min(8);
     let o = open(s, &mut places[..n]);
     let answer = o.answer;
     answered(b"open", answer);
@@ -43,38 +57,27 @@ fn opened(places: &mut [i32], text: &[u8], at: usize, parents_at: usize) -> Book
 }
 
 // An entry of a book without services, lent the prices of a line.
-fn entered(book: Book, ring: &mut [i32], text: &[u8], at: usize, lent: [usize; 4]) -> Book {
-    let mut n = [0u32; 1];
-    let mut prices = [0i32; 16];
-    let marks = [0u8; 8];
-    let flows = [1i32; 9];
-    let mut factors = [0u32; 9];
-    let schedule = [0i32; 32];
-    numbers(text, at, &mut n);
-    let p = signed_numbers(text, lent[0], &mut prices);
-    let l = numbers(text, lent[1], &mut factors);
-    let r = bytes_within(p, &marks);
-    let links = within(l, &flows);
-    let rows = within(2 * p, &schedule);
-    let mut table = prices;
-    let e = enter(
-        book,
-        ring,
-        n[0],
-        0,
-        &prices[..p],
-        &marks[..r],
-        &flows[..links],
-        &factors[..l],
-        &schedule[..rows],
-        &mut table[..p],
-    );
-    let publication = e.publication;
-    published(publication, &table, p);
+fn entered(book: Book, ring: &mut [i32], line: &[u8], lines: Lines) -> Book {
+    let [number] = fields::<u32, 1>(line, 0);
+    let prices = numbers::<i32, 16>(lines.prices);
+    let factors = numbers::<u32, 9>(lines.factors);
+    let mut table = numbers::<i32, 16>(lines.prices);
+    let regions = prices.len().min(8);
+    let entry = Entry {
+        kind: 0,
+        prices: prices.as_slice(),
+        marked: &[0; 8][..regions],
+        flows: &[1; 9][..factors.len()],
+        factors: factors.as_slice(),
+        schedule: &[0; 32][..2 * prices.len()],
+    };
+    let e = enter(book, ring, number, &entry, table.as_mut_slice());
+    let publication = e.answer;
+    published(publication, table.as_slice());
     e.book
 }
 
-fn store_by(kind: u32, book: Book, ring: &[i32], image: &mut [u8]) -> Stored {
+fn store_by(kind: u32, book: Book, ring: &[i32], image: &mut [u8]) -> Reply<usize> {
     if kind == 1 {
         return store_kind_1(book, ring, image);
     }
@@ -82,64 +85,41 @@ fn store_by(kind: u32, book: Book, ring: &[i32], image: &mut [u8]) -> Stored {
 }
 
 // The length of an image, or the refusal.
-fn told(image: Image) {
+fn told(image: Result<usize, Refusal>) {
     say(b"stored");
     match image {
-        Image::Length(n) => number(n as u64),
-        Image::Refused(r) => refusal(r),
+        Ok(n) => number(n as u64),
+        Err(r) => refusal(r),
     }
     say(b"\n");
 }
 
-fn stored(book: Book, ring: &[i32], image: &mut [u8], text: &[u8], at: usize) -> Book {
-    let mut n = [0u32; 2];
-    numbers(text, at, &mut n);
-    let room = bytes_within(size(n[1]), image);
-    let s = store_by(n[0], book, ring, &mut image[..room]);
-    let answer = s.image;
+fn stored(book: Book, ring: &[i32], image: &mut [u8; 192], line: &[u8]) -> Book {
+    let [kind, room] = fields::<u32, 2>(line, 0);
+    let n = (room as usize).min(192);
+    let s = store_by(kind, book, ring, &mut image[..n]);
+    let answer = s.answer;
     told(answer);
     s.book
 }
 
-fn wide_byte(b: u8) -> u64 {
-    b as u64
-}
-
-fn byte_at(image: &[u8], at: usize) {
-    if at < image.len() {
-        number(wide_byte(image[at]));
+fn put(image: &mut [u8; 192], line: &[u8]) {
+    let [place] = fields::<u32, 1>(line, 0);
+    let [_, byte] = fields::<u8, 2>(line, 0);
+    if place < 192 {
+        image[place as usize] = byte;
     }
 }
 
-// The bytes of kind 2 that kind 1 has not, where they are there.
-fn viewed(image: &[u8]) {
-    say(b"bytes");
-    byte_at(image, 148);
-    byte_at(image, 149);
-    byte_at(image, 150);
-    byte_at(image, 151);
-    byte_at(image, 152);
-    byte_at(image, 153);
-    byte_at(image, 154);
-    byte_at(image, 155);
-    say(b"\n");
+// So many bytes of the image as a line says.
+fn bytes_in<'a>(image: &'a [u8; 192], line: &[u8]) -> &'a [u8] {
+    let [n] = fields::<u32, 1>(line, 0);
+    &image[..(n as usize).min(192)]
 }
 
-fn put(image: &mut [u8], text: &[u8], at: usize) {
-    let mut n = [0u32; 2];
-    numbers(text, at, &mut n);
-    let place = size(n[0]);
-    if place < image.len() {
-        image[place] = byte(n[1]);
-    }
-}
-
-fn checked(image: &[u8], text: &[u8], at: usize) {
-    let mut n = [0u32; 1];
-    numbers(text, at, &mut n);
-    let end = bytes_within(size(n[0]), image);
+fn checked(image: &[u8]) {
     say(b"check");
-    number(check(&image[..end]) as u64);
+    number(u64::from(check(image)));
     say(b"\n");
 }
 
@@ -152,20 +132,17 @@ fn linked(book: Book) {
 }
 
 // The loaded book; refused, the book that there was, and its ring is as it was.
-fn loaded(before: Book, ring: &mut [i32], image: &[u8], text: &[u8], at: usize) -> Book {
-    let mut n = [0u32; 1];
-    numbers(text, at, &mut n);
-    let end = bytes_within(size(n[0]), image);
-    let l = load(&image[..end], ring);
+fn loaded(before: Book, ring: &mut [i32], image: &[u8]) -> Book {
+    let l = load(image, ring);
     let answer = l.answer;
     answered(b"load", answer);
     match answer {
-        Answer::Accepted => {
+        Ok(()) => {
             let book = l.book;
             linked(book);
             book
         }
-        Answer::Refused(_) => before,
+        Err(_) => before,
     }
 }
 
@@ -173,59 +150,50 @@ fn loaded(before: Book, ring: &mut [i32], image: &[u8], text: &[u8], at: usize) 
 fn called(
     book: Book,
     ring: &mut [i32],
-    image: &mut [u8],
+    image: &mut [u8; 192],
     letter: u8,
-    text: &[u8],
-    at: usize,
-    lent: [usize; 4],
+    line: &[u8],
+    lines: Lines,
 ) -> Book {
     match letter {
-        b'e' => entered(book, ring, text, at, lent),
-        b's' => stored(book, ring, image, text, at),
-        b'l' => loaded(book, ring, image, text, at),
+        b'e' => entered(book, ring, line, lines),
+        b's' => stored(book, ring, image, line),
+        b'l' => loaded(book, ring, bytes_in(image, line)),
         _ => book,
     }
 }
 
-// The book after a line.
-fn played(
-    book: Book,
-    places: &mut [i32],
-    image: &mut [u8],
-    letter: u8,
-    text: &[u8],
-    at: usize,
-    lent: [usize; 4],
-) -> Book {
-    if letter == b'o' {
-        return opened(places, text, at, lent[2]);
-    }
-    let n = within(ring_size(book.regions, book.services, book.window), places);
-    called(book, &mut places[..n], image, letter, text, at, lent)
-}
-
-// A line that is about the image's bytes alone.
-fn looked(image: &mut [u8], letter: u8, text: &[u8], at: usize) {
+// A line that is about the image's bytes alone; those that are viewed are the ones that kind 1 has not.
+fn looked(image: &mut [u8; 192], letter: u8, line: &[u8]) {
     match letter {
-        b'v' => viewed(image),
-        b'b' => put(image, text, at),
-        b'c' => checked(image, text, at),
+        b'v' => {
+            byte_list(b"bytes", &image[148..156]);
+            say(b"\n");
+        }
+        b'b' => put(image, line),
+        b'c' => checked(bytes_in(image, line)),
         _ => {}
     }
 }
 
 pub fn play(text: &[u8]) {
-    let mut ring = [0i32; 8];
+    let (first, rest) = first_line(text);
+    let mut lines = Lines::new(first);
+    let mut places = [0i32; 8];
     let mut image = [0u8; 192];
-    let mut lent = [0usize; 4];
     let mut book = closed();
-    let mut at: usize = 0;
-    while at < text.len() {
-        let letter = letter_at(text, at);
-        heading(letter, text, at);
-        lent[lent_place(letter)] = at;
-        looked(&mut image, letter, text, at);
-        book = played(book, &mut ring, &mut image, letter, text, at, lent);
-        at += 1;
+    for line in rest.split(|b| *b == b'\n') {
+        let Some((letter, line)) = line.split_first() else {
+            continue;
+        };
+        heading(*letter, line);
+        lines.take(*letter, line);
+        looked(&mut image, *letter, line);
+        book = if *letter == b'o' {
+            opened(&mut places, line, lines.parents)
+        } else {
+            let n = ring_size(book.regions, book.services, book.window).min(8);
+            called(book, &mut places[..n], &mut image, *letter, line, lines)
+        };
     }
 }

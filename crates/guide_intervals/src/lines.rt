@@ -7,36 +7,87 @@
 //   i          write an interval: number, day kind, room in the buffer, which holds sevens
 //   s          fill what is lent with a synthetic interval: seed, number, day kind
 //   =          a heading to print; lines that begin with anything else are for the reader
-ghost use Rattle.std.specs.Prelude.{◌<◌};
-
-use crate::lists::{number_list, signed_list};
-use book::record::{Book, closed};
-use interval_writer::writing::{Size, write_interval};
+use arrayvec::ArrayVec;
+use book::record::{Book, Refusal, closed};
+use interval_writer::writing::{Interval, write_interval};
 use intervals::reading::{Found, read_interval};
-use stage::printing::{number, refusal, say};
-use stage::reading::{byte, bytes, heading, letter_at, numbers, signed_numbers, size};
-use stage::records::{byte_list, bytes_within, gathered, opened, place};
+use stage::printing::{byte_list, list, number, refusal, say, signed};
+use stage::reading::{fields, first_line, heading, numbers};
+use stage::records::{gather, opened, place};
 use synthetic::{Draw, synthesize};
 
-// The place among the lines with what is lent of a line with this letter; the last is of all others.
-fn lent_place(letter: u8) -> usize
-    ensures { result < 8 }
-{
-    match letter {
-        b'p' => 0,
-        b'm' => 1,
-        b'f' => 2,
-        b'l' => 3,
-        b'w' => 4,
-        _ => 7,
+// The lines with what calls are lent.
+#[derive(Clone, Copy)]
+struct Lines<'a> {
+    prices: &'a [u8],
+    marks: &'a [u8],
+    flows: &'a [u8],
+    factors: &'a [u8],
+    parents: &'a [u8],
+}
+
+impl<'a> Lines<'a> {
+    // Until a line says what is lent, it is the text's first line.
+    fn new(first: &'a [u8]) -> Lines<'a> {
+        Lines {
+            prices: first,
+            marks: first,
+            flows: first,
+            factors: first,
+            parents: first,
+        }
+    }
+
+    // Takes a line that says what calls are lent from here on.
+    fn take(&mut self, letter: u8, line: &'a [u8]) {
+        match letter {
+            b'p' => self.prices = line,
+            b'm' => self.marks = line,
+            b'f' => self.flows = line,
+            b'l' => self.factors = line,
+            b'w' => self.parents = line,
+            _ => {}
+        }
+    }
+
+    fn lent(self) -> Lent {
+        Lent {
+            prices: numbers(self.prices),
+            marks: numbers(self.marks),
+            flows: numbers(self.flows),
+            factors: numbers(self.factors),
+        }
+    }
+}
+
+// What a call is lent.
+#[derive(Drop)]
+struct Lent {
+    prices: ArrayVec<i32, 8>,
+    marks: ArrayVec<u8, 80>,
+    flows: ArrayVec<i32, 8>,
+    factors: ArrayVec<u32, 8>,
+}
+
+impl Lent {
+    fn print(&self) {
+        list(b"; prices", self.prices.as_slice(), signed);
+        byte_list(b"; marks", self.marks.as_slice());
+        list(b"; flows", self.flows.as_slice(), signed);
+        list(
+            b"; factors",
+            self.factors.as_slice(),
+            |n| number(u64::from(n)),
+        );
+        say(b"\n");
     }
 }
 
 // Where the next interval is, and what its head says; or the refusal.
-fn told(found: Found) {
+fn told(found: Result<Found, Refusal>) {
     say(b"read");
     match found {
-        Found::At { next, number, kind } => {
+        Ok(Found { next, number, kind }) => {
             say(b" next");
             stage::printing::number(next as u64);
             say(b" number");
@@ -44,84 +95,64 @@ fn told(found: Found) {
             say(b" kind");
             stage::printing::number(kind as u64);
         }
-        Found::Refused(r) => refusal(r),
+        Err(r) => refusal(r),
     }
 }
 
 // A read into what the lines say, and what they then hold.
-fn taken(book: Book, records: &[u8], n: usize, text: &[u8], at: usize, lent: [usize; 8]) -> Book {
-    let mut prices = [0i32; 8];
-    let mut marks = [0u8; 80];
-    let mut flows = [0i32; 8];
-    let mut factors = [0u32; 8];
-    let p = signed_numbers(text, lent[0], &mut prices);
-    let m = bytes(text, lent[1], &mut marks);
-    let f = signed_numbers(text, lent[2], &mut flows);
-    let l = numbers(text, lent[3], &mut factors);
-    let end = bytes_within(n, records);
+fn taken(book: Book, records: &[u8], line: &[u8], lines: Lines) -> Book {
+    let mut lent = lines.lent();
     let t = read_interval(
         book,
-        &records[..end],
-        place(text, at),
-        &mut prices[..p],
-        &mut marks[..m],
-        &mut flows[..f],
-        &mut factors[..l],
+        records,
+        place(line),
+        lent.prices.as_mut_slice(),
+        lent.marks.as_mut_slice(),
+        lent.flows.as_mut_slice(),
+        lent.factors.as_mut_slice(),
     );
-    let found = t.found;
+    let found = t.answer;
     told(found);
-    signed_list(b"; prices", &prices, p);
-    byte_list(b"; marks", &marks, m);
-    signed_list(b"; flows", &flows, f);
-    number_list(b"; factors", &factors, l);
-    say(b"\n");
+    lent.print();
     t.book
 }
 
-fn sized(size: Size) {
+fn sized(size: Result<usize, Refusal>) {
     say(b"written");
     match size {
-        Size::Length(n) => number(n as u64),
-        Size::Refused(r) => refusal(r),
+        Ok(n) => number(n as u64),
+        Err(r) => refusal(r),
     }
 }
 
 // A write of what the lines say, and what the buffer then holds.
-fn put(book: Book, text: &[u8], at: usize, lent: [usize; 8]) -> Book {
-    let mut n = [0u32; 3];
-    let mut prices = [0i32; 8];
-    let mut marks = [0u8; 80];
-    let mut flows = [0i32; 8];
-    let mut factors = [0u32; 8];
-    let mut buffer = [7u8; 80];
-    numbers(text, at, &mut n);
-    let p = signed_numbers(text, lent[0], &mut prices);
-    let m = bytes(text, lent[1], &mut marks);
-    let f = signed_numbers(text, lent[2], &mut flows);
-    let l = numbers(text, lent[3], &mut factors);
-    let end = bytes_within(size(n[2]), &buffer);
-    let w = write_interval(
-        book,
-        n[0],
-        byte(n[1]),
-        &prices[..p],
-        &marks[..m],
-        &flows[..f],
-        &factors[..l],
-        &mut buffer[..end],
-    );
-    let answer = w.size;
+fn put(book: Book, line: &[u8], lines: Lines) -> Book {
+    let [number, _, room] = fields::<u32, 3>(line, 0);
+    let [_, kind] = fields::<u8, 2>(line, 0);
+    let lent = lines.lent();
+    let mut buffer = ArrayVec::from([7u8; 80]);
+    buffer.truncate(room as usize);
+    let interval = Interval {
+        number,
+        kind,
+        prices: lent.prices.as_slice(),
+        marked: lent.marks.as_slice(),
+        flows: lent.flows.as_slice(),
+        factors: lent.factors.as_slice(),
+    };
+    let w = write_interval(book, &interval, buffer.as_mut_slice());
+    let answer = w.answer;
     sized(answer);
-    byte_list(b"; buffer", &buffer, end);
+    byte_list(b"; buffer", buffer.as_slice());
     say(b"\n");
     w.book
 }
 
 // The last seed with the number and day kind that were given; or the refusal.
-fn told_draw(draw: Draw) {
+fn told_draw(draw: Result<Draw, Refusal>) {
     say(b"synthetic");
     match draw {
-        Draw::Made { seed, number, kind } => {
+        Ok(Draw { seed, number, kind }) => {
             say(b" seed");
             stage::printing::number(seed as u64);
             say(b" number");
@@ -129,74 +160,50 @@ fn told_draw(draw: Draw) {
             say(b" kind");
             stage::printing::number(kind as u64);
         }
-        Draw::Refused(r) => refusal(r),
+        Err(r) => refusal(r),
     }
 }
 
 // A test load into what the lines say, and what they then hold.
-fn drawn(book: Book, text: &[u8], at: usize, lent: [usize; 8]) -> Book {
-    let mut n = [0u32; 3];
-    let mut prices = [0i32; 8];
-    let mut marks = [0u8; 80];
-    let mut flows = [0i32; 8];
-    let mut factors = [0u32; 8];
-    numbers(text, at, &mut n);
-    let p = signed_numbers(text, lent[0], &mut prices);
-    let m = bytes(text, lent[1], &mut marks);
-    let f = signed_numbers(text, lent[2], &mut flows);
-    let l = numbers(text, lent[3], &mut factors);
+fn drawn(book: Book, line: &[u8], lines: Lines) -> Book {
+    let [seed, number] = fields::<u32, 2>(line, 0);
+    let [_, _, kind] = fields::<u8, 3>(line, 0);
+    let mut lent = lines.lent();
     let s = synthesize(
         book,
-        n[0],
-        n[1],
-        byte(n[2]),
-        &mut prices[..p],
-        &mut marks[..m],
-        &mut flows[..f],
-        &mut factors[..l],
+        seed,
+        number,
+        kind,
+        lent.prices.as_mut_slice(),
+        lent.marks.as_mut_slice(),
+        lent.flows.as_mut_slice(),
+        lent.factors.as_mut_slice(),
     );
-    let draw = s.draw;
+    let draw = s.answer;
     told_draw(draw);
-    signed_list(b"; prices", &prices, p);
-    byte_list(b"; marks", &marks, m);
-    signed_list(b"; flows", &flows, f);
-    number_list(b"; factors", &factors, l);
-    say(b"\n");
+    lent.print();
     s.book
 }
 
-// The book after a line.
-fn called(
-    book: Book,
-    records: &[u8],
-    n: usize,
-    letter: u8,
-    text: &[u8],
-    at: usize,
-    lent: [usize; 8],
-) -> Book {
-    match letter {
-        b'o' => opened(text, at, lent[4]),
-        b'c' => closed(),
-        b'r' => taken(book, records, n, text, at, lent),
-        b'i' => put(book, text, at, lent),
-        b's' => drawn(book, text, at, lent),
-        _ => book,
-    }
-}
-
 pub fn play(text: &[u8]) {
-    let mut records = [0u8; 256];
-    let mut n: usize = 0;
-    let mut lent = [0usize; 8];
+    let (first, rest) = first_line(text);
+    let mut lines = Lines::new(first);
+    let mut records = ArrayVec::new();
     let mut book = closed();
-    let mut at: usize = 0;
-    while at < text.len() {
-        let letter = letter_at(text, at);
-        heading(letter, text, at);
-        lent[lent_place(letter)] = at;
-        n = gathered(letter, text, at, &mut records, n);
-        book = called(book, &records, n, letter, text, at, lent);
-        at += 1;
+    for line in rest.split(|b| *b == b'\n') {
+        let Some((letter, line)) = line.split_first() else {
+            continue;
+        };
+        heading(*letter, line);
+        gather(*letter, line, &mut records);
+        lines.take(*letter, line);
+        match *letter {
+            b'o' => book = opened(line, lines.parents),
+            b'c' => book = closed(),
+            b'r' => book = taken(book, records.as_slice(), line, lines),
+            b'i' => book = put(book, line, lines),
+            b's' => book = drawn(book, line, lines),
+            _ => {}
+        }
     }
 }

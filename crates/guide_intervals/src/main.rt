@@ -4,7 +4,6 @@
 #![tactic(auto)]
 
 mod lines;
-mod lists;
 
 fn main() {
     let mut text = io::large_buffer();

@@ -4,71 +4,55 @@
 //   n a        new records, and bytes after those that are there, a number a byte
 //   t          take the interval at a place (-1 is the last of all places) and rewrite it into so many bytes, which hold sevens
 //   =          a heading to print; lines that begin with anything else are for the reader
-use book::record::{Book, closed};
-use interval_rewriter::rewriting::{Place, rewrite_interval};
-use stage::printing::{number, refusal, say};
-use stage::reading::{heading, letter_at, numbers, size};
-use stage::records::{byte_list, bytes_within, gathered, opened, place};
+use arrayvec::ArrayVec;
+use book::record::{Book, Refusal, closed};
+use interval_rewriter::rewriting::rewrite_interval;
+use stage::printing::{byte_list, number, refusal, say};
+use stage::reading::{fields, first_line, heading};
+use stage::records::{gather, opened, place};
 
 // The place after the interval that was taken; or the refusal.
-fn told(after: Place) {
+fn told(after: Result<usize, Refusal>) {
     say(b"rewritten");
     match after {
-        Place::After(next) => {
+        Ok(next) => {
             say(b" next");
             number(next as u64);
         }
-        Place::Refused(r) => refusal(r),
+        Err(r) => refusal(r),
     }
 }
 
 // A rewriting, and what the buffer then holds.
-fn taken(book: Book, records: &[u8], n: usize, text: &[u8], at: usize) -> Book {
-    let mut z = [0u32; 2];
-    let mut buffer = [7u8; 80];
-    numbers(text, at, &mut z);
-    let end = bytes_within(n, records);
-    let room = bytes_within(size(z[1]), &buffer);
-    let r = rewrite_interval(book, &records[..end], place(text, at), &mut buffer[..room]);
-    let after = r.place;
+fn taken(book: Book, records: &[u8], line: &[u8]) -> Book {
+    let [_, room] = fields::<u32, 2>(line, 0);
+    let mut buffer = ArrayVec::from([7u8; 80]);
+    buffer.truncate(room as usize);
+    let r = rewrite_interval(book, records, place(line), buffer.as_mut_slice());
+    let after = r.answer;
     told(after);
-    byte_list(b"; buffer", &buffer, room);
+    byte_list(b"; buffer", buffer.as_slice());
     say(b"\n");
     r.book
 }
 
-// The book after a line.
-fn called(
-    book: Book,
-    records: &[u8],
-    n: usize,
-    letter: u8,
-    text: &[u8],
-    at: usize,
-    parents: usize,
-) -> Book {
-    match letter {
-        b'o' => opened(text, at, parents),
-        b'c' => closed(),
-        b't' => taken(book, records, n, text, at),
-        _ => book,
-    }
-}
-
 pub fn play(text: &[u8]) {
-    let mut records = [0u8; 256];
-    let mut n: usize = 0;
-    let mut parents: usize = 0;
+    let (first, rest) = first_line(text);
+    let mut records = ArrayVec::new();
+    let mut parents = first;
     let mut book = closed();
-    let mut at: usize = 0;
-    while at < text.len() {
-        let letter = letter_at(text, at);
-        heading(letter, text, at);
-        if letter == b'w' {
-            parents = at;
+    for line in rest.split(|b| *b == b'\n') {
+        let Some((letter, line)) = line.split_first() else {
+            continue;
+        };
+        heading(*letter, line);
+        gather(*letter, line, &mut records);
+        match *letter {
+            b'w' => parents = line,
+            b'o' => book = opened(line, parents),
+            b'c' => book = closed(),
+            b't' => book = taken(book, records.as_slice(), line),
+            _ => {}
         }
-        n = gathered(letter, text, at, &mut records, n);
-        book = called(book, &records, n, letter, text, at, parents);
-        at += 1;
     }
 }

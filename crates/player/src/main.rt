@@ -11,36 +11,11 @@ use codec::{get_u8, get_u16};
 use records::reading::opens;
 use replay::replay;
 
-// One byte more than a list of calls may have, so that a longer input shows.
-fn room() -> [u8; 65537]
-    ensures { 65537 ≡ length result }
+// What is lent; of what is there before, only the length matters.
+fn zeros<T: Copy + Default, const N: usize>() -> [T; N]
+    ensures { N ≡ length result }
 {
-    [0; 65537]
-}
-
-// What is lent to the replay; of what is there before, only the length matters.
-fn places() -> [i32; 16384]
-    ensures { 16384 ≡ length result }
-{
-    [0; 16384]
-}
-
-fn factors() -> [u32; 16384]
-    ensures { 16384 ≡ length result }
-{
-    [0; 16384]
-}
-
-fn image() -> [u8; 65684]
-    ensures { 65684 ≡ length result }
-{
-    [0; 65684]
-}
-
-fn answers() -> [u8; 163840]
-    ensures { 163840 ≡ length result }
-{
-    [0; 163840]
+    [T::default(); N]
 }
 
 // More than 65,536 bytes, or a book of more than 16,384 places.
@@ -62,12 +37,12 @@ fn play(bytes: &[u8], out: &mut [u8; 163840]) -> usize
     ensures out_after { out.new ≡ sets out.old 0 (promised_for bytes.now lent) }
     ensures upper_bound { result ≤ length out.new }
 {
-    let mut ring = places();
-    let mut other = places();
-    let mut buffer = image();
-    let mut numbers = places();
-    let mut used = factors();
-    let mut table = places();
+    let mut ring = zeros::<i32, 16384>();
+    let mut other = zeros::<i32, 16384>();
+    let mut buffer = zeros::<u8, 65684>();
+    let mut numbers = zeros::<i32, 16384>();
+    let mut used = zeros::<u32, 16384>();
+    let mut table = zeros::<i32, 16384>();
     replay(
         bytes,
         out,
@@ -81,13 +56,14 @@ fn play(bytes: &[u8], out: &mut [u8; 163840]) -> usize
 }
 
 fn main() {
-    let mut input = room();
+    // One byte more than a list of calls may have, so that a longer input shows.
+    let mut input = zeros::<u8, 65537>();
     let n = io::read_full(0, &mut input);
     if too_large(&input[..n]) {
         io::write_all(1, b"refused 29\n");
         return;
     }
-    let mut out = answers();
+    let mut out = zeros::<u8, 163840>();
     let k = play(&input[..n], &mut out);
     io::write_all(1, &out[..k]);
 }

@@ -9,7 +9,7 @@ use lib.ListN.{length}
 use Rattle.laws.specs.Bytes.{number_at, size_of}
 use Rattle.book.specs.declared.record.Book.{Book}
 use Rattle.book.specs.Record.{ring_size}
-use Rattle.image.specs.declared.loading.Loaded.{Loaded}
+use Rattle.book.specs.declared.record.Reply.{Reply}
 use Rattle.head.specs.Layout.{widths, book_of, is_second, head_from}
 use Rattle.image.specs.Loading.{ring_of, load_verdict, checked, book_from, Outcome, outcome, loaded}
 use Rattle.head.proofs.Heads.{field_at}
@@ -34,7 +34,7 @@ module _ (l : List ℕ) (e : checked l ≡ 0) where
   shape b e = rw e (ok.head.book.regions, ok.head.book.services)
 
   -- loaded into a ring of its size
-  pub book-is : (r : Loaded) (before after : List ℤ) → length before ≡ ring_of (head_from l) → outcome r after ≡ loaded l before → r.book ≡ book_from l
+  pub book-is : (r : Reply Unit) (before after : List ℤ) → length before ≡ ring_of (head_from l) → outcome r after ≡ loaded l before → r.book ≡ book_from l
   book-is r before after h f =
       let g : LoadOk l (length before) = rw h ok in
       ap (λ (o : Outcome). o.book) (f ∙ ok-loaded l before g)

@@ -7,8 +7,7 @@ use native.Mathlib.Nat.{add-zero}
 use native.Mathlib.Omega.{arith}
 use lib.IntN.{ℤ, pos, negsuc}
 use lib.ListN.{length, take, drop, set, length-append, length-drop, drop_of_length-le, take-append-drop}
-use lib.Seq.{drop-drop, take_all, take-length}
-use lib.Seq.{paste as copied}
+use lib.Seq.{drop-drop, take_all}
 use mir.Syntax.{w64}
 use mir.Val.{SFits}
 use Rattle.laws.proofs.Tests.{lt-or-ge}
@@ -59,10 +58,10 @@ put_then {t} {u} {at} {r} {s} {b} {l} {m} h p q = record {
 pub put-length : {t : List ℕ} {at r : ℕ} {b l : List ℕ} → at + length t ≤ length b → Put t at r b l → length l ≡ length b
 put-length {t} {at} {r} {b} {l} h p = rw p.bytes (length-paste at t b h)
 
--- the first n bytes of a text
-pub copy_done : (b t l : List ℕ) (at n : ℕ) → n ≡ length t → l ≡ copied b at t n → l ≡ paste at t b
+-- a text copied to a place
+pub put-copied : (t b l : List ℕ) (at n : ℕ) → n ≡ length t → l ≡ t → Put t at (at + length t) b (take at b ++ (l ++ drop n (drop at b)))
 unfolding paste
-copy_done b t l at n e p = rw (p, e, take-length t) (append_assoc (take at b) t (drop (at + length t) b))
+put-copied t b l at n e p = record { ends = refl; bytes = rw (p, e, drop-drop (length t) at b) refl }
 
 -- a text written as the first bytes of the part from a place on
 pub put-part : (t b l : List ℕ) (at r : ℕ) → at + length t ≤ length b → let k = length b - at in

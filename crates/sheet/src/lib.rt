@@ -33,8 +33,7 @@ fn put_lines(book: Book, out: &mut [u8]) -> usize
     let markets = book.services as usize + 1;
     let n = book.regions as usize * markets;
     let mut at = put_header(out);
-    let mut q: usize = 0;
-    while q < n {
+    for q in 0..n {
         let region = q / markets;
         let market = q % markets;
         let place = 11 * region + market;
@@ -50,7 +49,6 @@ fn put_lines(book: Book, out: &mut [u8]) -> usize
             at,
             out,
         );
-        q += 1;
     }
     at
 }
@@ -64,11 +62,11 @@ fn ring_places(bytes: &[u8]) -> usize
     ring_size(bytes[6], bytes[7], window)
 }
 
-// Places for the prices of an image; of what is there before, only the length matters.
-fn places() -> [i32; 16384]
-    ensures { 16384 ≡ length result }
+// Room that is lent; of what is there before, only the length matters.
+pub fn zeros<T: Copy + Default, const N: usize>() -> [T; N]
+    ensures { N ≡ length result }
 {
-    [0; 16384]
+    [T::default(); N]
 }
 
 // The book of an image that passes the check, in a ring of `size` places.
@@ -76,7 +74,7 @@ fn loaded_book(bytes: &[u8], size: usize) -> Book
     requires { (checked bytes.now ≡ 0) × (size ≡ ring_of (head_from bytes.now)) × (size ≤ 16384) }
     ensures { result ≡ book_from bytes.now }
 {
-    let mut ring = places();
+    let mut ring = zeros::<i32, 16384>();
     let loaded = load(bytes, &mut ring[..size]);
     loaded.book
 }

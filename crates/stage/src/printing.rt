@@ -1,9 +1,7 @@
 // Prints what calls answer.
 use amount::amount_text;
-use book::record::{Answer, Refusal};
+use book::record::Refusal;
 use book_calls::report::Reading;
-use codec::bits32;
-use entries::Publication;
 
 pub fn say(text: &[u8]) {
     io::write_all(1, text);
@@ -11,29 +9,26 @@ pub fn say(text: &[u8]) {
 
 pub fn amount(cents: i64) {
     let mut buffer = [0u8; 24];
-    let text = amount_text(cents, &mut buffer);
-    io::write_all(1, b" ");
-    io::write_all(1, text);
+    say(b" ");
+    say(amount_text(cents, &mut buffer));
 }
 
 pub fn price(cents: i32) {
-    amount(cents as i64);
+    amount(i64::from(cents));
 }
 
 pub fn number(n: u64) {
-    io::write_all(1, b" ");
+    say(b" ");
     io::print_decimal(1, n);
 }
 
-// A whole number with its sign: below zero its bits are 2 ^ 32 more.
+// A whole number with its sign.
 pub fn signed(z: i32) {
-    let bits = bits32(z) as u64;
+    say(b" ");
     if z < 0 {
-        io::write_all(1, b" -");
-        io::print_decimal(1, 4294967296 - bits);
-    } else {
-        number(bits);
+        say(b"-");
     }
+    io::print_decimal(1, u64::from(z.unsigned_abs()));
 }
 
 fn at(place: usize) {
@@ -43,19 +38,19 @@ fn at(place: usize) {
 
 // A refusal's number, and its place for 15, 16, 17 and 46, which have one.
 pub fn refusal(r: Refusal) {
-    let n = book::record::number(r);
+    let n = r.number();
     say(b" refused");
     number(n as u64);
     if ((15 <= n) & (n <= 17)) | (n == 46) {
-        at(book::record::place(r));
+        at(r.place());
     }
 }
 
 // An opening or a setting: nothing where it is accepted.
-pub fn answered(call: &[u8], answer: Answer) {
+pub fn answered(call: &[u8], answer: Result<(), Refusal>) {
     match answer {
-        Answer::Accepted => {}
-        Answer::Refused(r) => {
+        Ok(()) => {}
+        Err(r) => {
             say(call);
             refusal(r);
             say(b"\n");
@@ -64,15 +59,14 @@ pub fn answered(call: &[u8], answer: Answer) {
 }
 
 // An entry: the published prices and the count, or the refusal.
-pub fn published(publication: Publication, table: &[i32; 16], places: usize) {
-    match publication {
-        Publication::Count(n) => {
-            say(b"published");
-            prices(table, places);
+pub fn published(answer: Result<u32, Refusal>, table: &[i32]) {
+    match answer {
+        Ok(n) => {
+            list(b"published", table, price);
             say(b" count");
             number(n as u64);
         }
-        Publication::Refused(r) => {
+        Err(r) => {
             say(b"entry");
             refusal(r);
         }
@@ -80,33 +74,31 @@ pub fn published(publication: Publication, table: &[i32; 16], places: usize) {
     say(b"\n");
 }
 
-// The first prices of a table.
-fn prices(table: &[i32; 16], places: usize) {
-    let mut k: usize = 0;
-    while k < 16 {
-        if k < places {
-            price(table[k]);
-        }
-        k += 1;
+// A name, and what `print` makes of each item of a list.
+pub fn list<T: Copy, F: Fn(T)>(name: &[u8], items: &[T], print: F)
+    requires { F.IsAlwaysCallable print }
+{
+    say(name);
+    for item in items {
+        print(*item);
     }
 }
 
+pub fn byte_list(name: &[u8], bytes: &[u8]) {
+    list(name, bytes, |b| number(u64::from(b)));
+}
+
 // A report: sum, prices counted, mark, entries taken, or the refusal.
-pub fn reported(reading: Reading) {
+pub fn reported(answer: Result<Reading, Refusal>) {
     say(b"report");
-    match reading {
-        Reading::Values {
-            sum,
-            counted,
-            mark,
-            entries,
-        } => {
-            amount(sum);
-            number(counted as u64);
-            number(mark as u64);
-            number(entries as u64);
+    match answer {
+        Ok(reading) => {
+            amount(reading.sum);
+            number(reading.counted as u64);
+            number(reading.mark as u64);
+            number(reading.entries as u64);
         }
-        Reading::Refused(r) => refusal(r),
+        Err(r) => refusal(r),
     }
     say(b"\n");
 }

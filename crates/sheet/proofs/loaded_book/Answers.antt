@@ -8,5 +8,5 @@ use Rattle.sheet.proofs.loaded_book.Goals as goal
 
 pub returns : goal.returns
 returns c =
-    let part : length (take c.args.size c.places-ring.result) ≡ c.args.size = (length-take-le c.args.size c.places-ring.result (omega (arith, c.places-ring.ensures, c.requires))) in
+    let part : length (take c.args.size c.zeros-ring.result) ≡ c.args.size = (length-take-le c.args.size c.zeros-ring.result (omega (arith, c.zeros-ring.ensures, c.requires))) in
     book-is c.args.bytes.now c.requires.0 c.load-loaded.result _ _ (part ∙ c.requires.1) c.load-loaded.ensures

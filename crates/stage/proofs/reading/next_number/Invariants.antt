@@ -1,10 +1,6 @@
--- `stage::reading::next_number` reads within the text and ends. Assumes nothing.
-use Prim.Native.Nat.{◌≤◌, ◌-◌}
-use lib.ListN.{length}
+-- `stage::reading::next_number` meets its contract. The loop's invariant: the number has its bound. Assumes nothing.
+use Prim.Native.Nat.{◌≤◌}
 use Rattle.stage.proofs.reading.next_number.Given as goal
 
-abbrev pub invariant-loop-i : goal.invariant-loop-i
-invariant-loop-i l = l.at ≤ l.i
-
-abbrev pub decreases-loop-i : goal.decreases-loop-i
-decreases-loop-i l = length l.text - l.i
+abbrev pub invariant-loop-b : goal.invariant-loop-b
+invariant-loop-b l = l.value ≤ 4000000000009
