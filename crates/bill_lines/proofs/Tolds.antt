@@ -2,9 +2,10 @@
 use mathlib.Core.Path.{◌≡◌, refl, ap, ◌∙◌}
 use mathlib.Core.Bool.{Bool, true, false}
 use Prim.Native.Nat.{ℕ, ◌+◌, ◌<◌, ◌≤◌}
-use lib.Dec.{leb, ltb}
+use lib.Dec.{leb, ltb, eqb}
 use lib.ListN.{length, get_or}
-use borrow.Author.Tests.{lt-ltb, le-ltb, lt-leb, le-leb, eq-eqb}
+use borrow.Author.Tests.{ltb-true, lt-ltb, le-ltb, lt-leb, le-leb, eq-eqb}
+use Rattle.laws.proofs.Tests.{and_left}
 use Rattle.laws.specs.Base.{pick}
 use Rattle.bill_lines.specs.Lines.{Lines, Shown, right_at, most_energy}
 use Rattle.bill_lines.specs.Working.{line_told, leads_to}
@@ -24,6 +25,11 @@ module _ (l : Lines) (i : ℕ) (s : Shown) where
   unfolding line_told
   told-right e h = rw (e, h) refl
 
+  -- a line that was told to be right is there
+  pub told-there : line_told l i s ≡ true → i < length l.numbers
+  unfolding line_told
+  told-there e = ltb-true _ _ (and_left (ltb i (length l.numbers)) _ e)
+
 -- ---- how many of the first lines are right, by the way the code takes: v are the lines as it reads them
 module _ (v l : Lines) (is : v ≡ l) (right count : ℕ) (s : Shown) (q : right ≡ count) where
   leads-by : (b : Bool) → b ≡ line_told v count s → pick b (right + 1) right ≡ leads_to l right count s
@@ -38,3 +44,14 @@ module _ (v l : Lines) (is : v ≡ l) (right count : ℕ) (s : Shown) (q : right
   pub leads-told : count < length v.numbers → get_or v.energy count 0 ≤ most_energy → (b : Bool) → b ≡ right_at v count s
       → pick b (right + 1) right ≡ leads_to l right count s
   leads-told h e b r = leads-by b (r ∙ told-right v count s (lt-ltb _ _ h) (le-leb _ _ e))
+
+-- the same of lines that have been told
+module _ (l : Lines) (right count : ℕ) (s : Shown) where
+  pub leads-past : eqb right count ≡ false → right ≡ leads_to l right count s
+  leads-past e = rw e refl
+
+  pub leads-on : eqb right count ≡ true → line_told l count s ≡ true → right + 1 ≡ leads_to l right count s
+  leads-on e t = rw (e, t) refl
+
+  pub leads-stay : eqb right count ≡ true → line_told l count s ≡ false → right ≡ leads_to l right count s
+  leads-stay e t = rw (e, t) refl

@@ -48,6 +48,17 @@ pub put-done : (l r : List ℕ) (p n y : ℕ) → n ≡ 0 → sets l p (le n y) 
 unfolding le
 put-done l r p n y e f = rw e at f
 
+-- four bytes, one put each
+pub word-sets : (l : List ℕ) (at x y : ℕ) → x ≡ y → set (set (set (set l at (x % 256)) (at + 1) (x / 256 % 256)) (at + 2) (x / 65536 % 256)) (at + 3) (x / 16777216 % 256) ≡ sets l at (le 4 y)
+unfolding le
+word-sets l at x y e =
+    let a : at + 1 ≡ suc at = omega arith in
+    let b : at + 2 ≡ suc (suc at) = omega arith in
+    let c : at + 3 ≡ suc (suc (suc at)) = omega arith in
+    let p : x / 65536 ≡ x / 256 / 256 = omega arith in
+    let q : x / 16777216 ≡ x / 256 / 256 / 256 = omega arith in
+    rw (a, b, c, p, q, e)
+
 -- ---- a part copied over a place, and four bytes
 pub copied : (l m xs : List ℕ) (at n : ℕ) → n ≡ length xs → at + n ≤ length l → m ≡ xs → put_mid at n l m ≡ sets l at xs
 copied l m xs at n k h e = rw (e, k, sets-eq xs l at (omega arith), drop-drop, append_assoc)

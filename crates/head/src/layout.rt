@@ -122,6 +122,17 @@ pub fn prices_from(bytes: &[u8]) -> usize
     head_size(is_second(bytes))
 }
 
+// The end of the additional link at a place of the tail; kind 1 has no tail, and none of the ends.
+pub fn end_in(bytes: &[u8], at: usize) -> u8
+    requires { (148 ≤ length bytes.now) × (is_second bytes.now ≡ true → at < length bytes.now) }
+    ensures { result ≡ end_in bytes.now at }
+{
+    if is_second(bytes) {
+        return get_u8(bytes, at);
+    }
+    255
+}
+
 // An image whose head stands whole, with the tail that its kind has.
 #[derive(Drop)]
 pub struct Head<'a> {
@@ -154,17 +165,6 @@ impl<'a> Head<'a> {
         prices_from(self.bytes)
     }
 
-    // The end of the additional link at a place of the tail; kind 1 has no tail, and none of the ends.
-    fn end_in(&self, at: usize) -> u8
-        requires { at < 156 }
-        ensures { result ≡ end_in self.now at }
-    {
-        if self.is_second() {
-            return get_u8(self.bytes, at);
-        }
-        255
-    }
-
     // The book that the head says, before its sums are added up.
     pub fn book(&self) -> Book
         ensures { result ≡ head_from self.now }
@@ -175,8 +175,8 @@ impl<'a> Head<'a> {
         let nexts = next_places(window, counts);
         let parents = get_array(bytes, 12);
         let marks = get_array(bytes, 60);
-        let from = self.end_in(148);
-        let to = self.end_in(149);
+        let from = end_in(bytes, 148);
+        let to = end_in(bytes, 149);
         Book {
             regions: get_u8(bytes, 6),
             services: get_u8(bytes, 7),

@@ -42,6 +42,29 @@ pub record Older (w s n m : ℕ) : Type 0 where
 pub older : (w s n : ℕ) → s ≤ w → n ≤ w → Older w s n (min n (w - s))
 older w s n hs hn = record { part = omega arith; within = omega arith; others = omega arith; at-end = λ h. omega arith }
 
+-- the same of a ring's places
+module _ (ring : List ℤ) (base w s n m : ℕ) (o : Older w s n m) where
+  first : (k : ℕ) → k < m → get_or ring (base + wrap w (s + k)) (pos 0) ≡ get_or ring (base + s + k) (pos 0)
+  first k h =
+      let p : s + k < w = omega (arith, o.within) in
+      ap (λ (i : ℕ). get_or ring i (pos 0)) (rw (lt-ltb (s + k) w p) (omega arith))
+
+  second : (k : ℕ) → k < n - m → get_or ring (base + wrap w (s + (m + k))) (pos 0) ≡ get_or ring (base + k) (pos 0)
+  second k h =
+      let e : s + m ≡ w = o.at-end (omega arith) in
+      let p : w ≤ s + (m + k) = omega arith in
+      ap (λ (i : ℕ). get_or ring i (pos 0)) (rw (le-ltb (s + (m + k)) w p) (omega arith))
+
+  pub window-runs : window_of ring base w s n ≡ places_of ring (base + s) m ++ places_of ring base (n - m)
+  window-runs = tabulate-parts m n _ _ _ o.part first second
+
+  pub all_runs : (market : ℕ) → all_below n (λ i. in_range (is_energy market) (get_or ring (base + wrap w (s + i)) (pos 0)))
+      ≡ (all_below m (λ i. in_range (is_energy market) (get_or ring (base + s + i) (pos 0))) && all_below (n - m) (λ i. in_range (is_energy market) (get_or ring (base + i) (pos 0))))
+  all_runs market = all_below-parts m n _ _ _ o.part (λ k h. ap (in_range (is_energy market)) (first k h)) (λ k h. ap (in_range (is_energy market)) (second k h))
+
+  pub total_runs : total (window_of ring base w s n) ≡ total (places_of ring (base + s) m) +ℤ total (places_of ring base (n - m))
+  total_runs = ap total window-runs ∙ total-append (places_of ring (base + s) m) (places_of ring base (n - m))
+
 -- the two slices are the prices in their order
 pub runs : (g : List ℤ) (s n m : ℕ) → Older (length g) s n m → take m (drop s g) ++ take (n - m) g ≡ window_of g 0 (length g) s n
 runs g s n m o =

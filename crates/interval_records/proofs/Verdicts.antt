@@ -13,10 +13,26 @@ use Rattle.laws.specs.Base.{pick}
 use Rattle.laws.specs.Bytes.{number_at}
 use Rattle.pricing.specs.Verdict.{Verdict, accepted, refused}
 use Rattle.book.specs.Record.{is_accepted}
-use Rattle.interval_records.specs.Layout.{head_length}
+use Rattle.interval_records.specs.Layout.{head_length, region_length, link_length}
 use Rattle.interval_records.specs.Record.{length_at, kind_at, known_length, whole, due_verdict, link_verdict, head_verdict, record_place, region_at, first_refusal}
 use Rattle.interval_records.specs.InOrder.{next_verdict, ordered_verdict}
 use Rattle.interval_records.specs.Working.{tested_verdict, regions_verdict, records_verdict}
+
+-- ---- the length of a known kind
+module _ (markets kind : ℕ) where
+  pub known-head : kind ≡ 16 → head_length ≡ known_length markets kind
+  known-head e = rw (eq-eqb kind 16 e) refl
+
+  module _ (n : kind ≡ 16 → ⊥) where
+    pub known-region : kind ≡ 17 → region_length markets ≡ known_length markets kind
+    known-region e = rw (ne_eqb kind 16 n, eq-eqb kind 17 e) refl
+
+    module _ (m : kind ≡ 17 → ⊥) where
+      pub known-link : kind ≡ 18 → link_length ≡ known_length markets kind
+      known-link e = rw (ne_eqb kind 16 n, ne_eqb kind 17 m, eq-eqb kind 18 e) refl
+
+      pub known-none : (kind ≡ 18 → ⊥) → 0 ≡ known_length markets kind
+      known-none e = rw (ne_eqb kind 16 n, ne_eqb kind 17 m, ne_eqb kind 18 e) refl
 
 -- ---- one record: 40, then 41
 module _ (markets : ℕ) (bytes : List ℕ) (p : ℕ) where

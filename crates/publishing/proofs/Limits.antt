@@ -12,17 +12,19 @@ use lib.Signed.{le_z, ◌≤ℤ◌}
 use mir.Syntax.{w32}
 use mir.Val.{SFits}
 use borrow.Author.Tests.{lt-ltb, ltb-true}
-use Rattle.laws.specs.Base.{pick}
+use Rattle.laws.specs.Base.{pick, min_z, max_z}
 use Rattle.laws.specs.Lists.{run}
 use Rattle.laws.proofs.Integers.{integers, abs-fits, le_order}
 use Rattle.laws.proofs.Tests.{and_left, and_right}
 use Rattle.laws.proofs.Lists.{get_or-tabulate, tabulate-same}
 use Rattle.pricing.specs.Holding.{limits_ok}
 use Rattle.pricing.specs.Carrying.{Factor}
+use Rattle.book.proofs.Ways.{links-least, links-more}
 use Rattle.pricing.specs.Passing.{fine, cents}
 use Rattle.pricing.proofs.Passings.{fine-size, fine-above, fine-below}
 use Rattle.routes.specs.Limits.{own}
 use Rattle.routes.specs.Links.{power_of, powers_of}
+use Rattle.routes.specs.Lent.{LentLinks}
 use Rattle.routes.specs.Routes.{limit_of}
 use Rattle.routes.specs.Search.{Linked, Sized, Searched}
 use Rattle.routes.proofs.Routes.{limit-same}
@@ -50,6 +52,19 @@ pub in-cents-at : (l : Option ℤ) {q : ℤ} → in_cents l ≡ Some q → (z : 
 unfolding in_cents
 in-cents-at None e = absurd (none-some _ e)
 in-cents-at (Some z) e = (z, refl, sym (same_Some _ _ e))
+
+-- ---- one of two 32-bit numbers
+pub pick-fits : (b : Bool) {x y : ℤ} → SFits w32 x → SFits w32 y → SFits w32 (pick b x y)
+pick-fits true f g = f
+pick-fits false f g = g
+
+pub min-fits : {x y : ℤ} → SFits w32 x → SFits w32 y → SFits w32 (min_z x y)
+unfolding min_z
+min-fits {x} {y} f g = pick-fits (le_z x y) f g
+
+pub max-fits : {x y : ℤ} → SFits w32 x → SFits w32 y → SFits w32 (max_z x y)
+unfolding max_z
+max-fits {x} {y} f g = pick-fits (le_z x y) g f
 
 -- ---- the cap and the floor of a book
 pub limits-are : (cap floor : ℤ) → limits_ok cap floor ≡ true
@@ -153,6 +168,17 @@ module _ (t : Terms) (ok : TermsOk t) (flows : List ℤ) (factors : List ℕ) (l
     floor-below e =
         floor-kept (power_of (network_of t) flows factors) t.regions ok.regions.1 linked x here 9999 _
         (λ y i. source-kept (λ z. z ≤ℤ negsuc 9999) (fine t.floor) (fine-below t.floor (floor-most t ok)) (test y)) e
+
+-- ---- what the table of powers is made from: R places, and a last one exactly where there is the additional link
+pub lent-links : (t : Terms) → TermsOk t → (flows : List ℤ) (factors : List ℕ) → LinksOk t flows factors → LentLinks (network_of t) flows factors
+lent-links t ok flows factors links =
+    let n = links.flows-size in
+    record {
+      few = ok.regions.1;
+      each = rw n (links-least t.regions t.from);
+      last = λ e. rw n (rw (links-more t.regions t.from e) (omega arith));
+      alike = links.factors-size ∙ sym n;
+    }
 
 -- ---- the search, by the table of powers
 module _ (t : Terms) (ok : TermsOk t) (flows : List ℤ) (factors : List ℕ) (links : LinksOk t flows factors)

@@ -122,7 +122,7 @@ fn size_for(bytes: &[u8], at: usize, kind: u16) -> Option<usize>
 }
 
 // The length of the record of a call at a place, where it stands whole.
-fn call_size(bytes: &[u8], at: usize) -> Option<usize>
+pub fn call_size(bytes: &[u8], at: usize) -> Option<usize>
     requires { at ≤ length bytes.now }
     ensures { result ≡ some_size (call_size bytes.now at) }
 {
@@ -151,7 +151,7 @@ fn fits(lengths: Lengths, room: Room) -> bool
 }
 
 // How many bytes the answer to the call at a place takes.
-fn answer_size(bytes: &[u8], at: usize) -> usize
+pub fn answer_size(bytes: &[u8], at: usize) -> usize
     requires { (at ≤ length bytes.now) × (6 ≤ length bytes.now - at) × (eqb (kind_at bytes.now at) 65 ≡ true → at + 40 ≤ length bytes.now) }
     ensures { result ≡ answer_size bytes.now at }
 {

@@ -7,18 +7,18 @@ use Prim.Native.Nat.{ℕ, zero, suc, ◌+◌, ◌*◌, ◌^◌, ◌≤◌, ◌<�
 use native.Mathlib.Nat.{mul-le-mul_right}
 use native.Mathlib.Numerals.{add-one}
 use native.Mathlib.Omega.{arith}
-use borrow.Author.Tests.{eq-eqb, eqb-true, eqb-false, lt-ltb, le-ltb, ltb-true, ltb-false, leb-true, not-false}
+use borrow.Author.Tests.{eq-eqb, ne_eqb, eqb-true, eqb-false, lt-ltb, le-ltb, ltb-true, ltb-false, leb-true, not-false}
 use lib.Dec.{eqb, leb, ltb}
 use lib.IntN.{ℤ, pos, negsuc, nat_abs, ◌+ℤ◌}
 use lib.Signed.{le_z}
 use lib.ListN.{length, get_or, set, take, length-append, length-set, get_or-eq_default}
 use lib.Seq.{ext_get_or, get_or-set_same, get_or-set_other}
 use Rattle.laws.specs.Base.{pick}
-use Rattle.laws.specs.Lists.{run, tabulate, puts, total}
+use Rattle.laws.specs.Lists.{run, tabulate, puts, first_below, total}
 use mir.Syntax.{Width}
 use mir.Val.{SFits, hbits}
 use Rattle.laws.proofs.Integers.{abs-add, abs-fits}
-use Rattle.laws.proofs.Lists.{all-at, any_at, length_run, get_or-tabulate, tabulate-same, first_below-passed, flat-lt}
+use Rattle.laws.proofs.Lists.{all-at, any_at, length_run, get_or-tabulate, tabulate-same, first_below-passed, first_below-all, first_below-some, flat-lt}
 use Rattle.laws.proofs.Tests.{true-is, and_left, and_right, by-test, lt-or-ge}
 use Rattle.laws.proofs.Totals.{total-append, total-next, total_size}
 use Rattle.pricing.specs.Verdict.{accepted, refused, refused_at}
@@ -181,6 +181,19 @@ range_size false (negsuc n) e = absurd (true-is e)
 -- six prices in range
 pub six-small : (energy : Bool) (six : List ℤ) → all_in_range energy six ≡ true → Small six
 six-small energy six e j h = range_size energy (get_or six j (pos 0)) (all-at 6 (λ j. in_range energy (get_or six j (pos 0))) e j h)
+
+-- all six are in range exactly if the first that is not is none of them
+pub all-by-first : (energy : Bool) (six : List ℤ) → eqb (first_below 6 (λ j. not (in_range energy (get_or six j (pos 0))))) 6 ≡ all_in_range energy six
+all-by-first energy six =
+    by-test (all_in_range energy six)
+    (λ e. rw e (eq-eqb first 6 (first_below-all 6 there e)))
+    (λ e. rw e (ne_eqb first 6 (λ n. let l = first_below-some 6 there e in omega arith)))
+  where
+    there : ℕ → Bool
+    there j = in_range energy (get_or six j (pos 0))
+
+    first : ℕ
+    first = first_below 6 (λ j. not (there j))
 
 module _ (H : ℕ) (prices : List ℤ) (kinds : List ℕ) (e : sizes_ok H prices kinds ≡ true) where
   pub sizes : ((1 ≤ H) × (H ≤ 48)) × ((length prices ≡ 28 * (6 * H)) × (length kinds ≡ 28))

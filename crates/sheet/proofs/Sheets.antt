@@ -2,11 +2,13 @@
 use mathlib.Core.Path.{◌≡◌, sym, ap, ◌∙◌}
 use mathlib.Core.List.{List, ◌++◌, append_assoc, append-nil}
 use Prim.Native.Nat.{ℕ, zero, suc, ◌+◌, ◌*◌, ◌/◌, ◌%◌, ◌≤◌, ◌<◌}
+use native.Mathlib.Nat.{mod-lt, div-lt_iff_lt-mul}
 use native.Mathlib.Numerals.{add-one}
 use native.Mathlib.Omega.{arith}
 use borrow.Author.Tests.{lt-ltb, le-ltb, eq-eqb, ne_eqb}
 use lib.IntN.{pos}
 use lib.ListN.{length, get_or, drop, length-append}
+use Rattle.laws.proofs.Lists.{flat-place}
 use Rattle.laws.specs.Lists.{joined}
 use Rattle.amount.specs.Text.{paste}
 use Rattle.book.specs.declared.record.Book.{Book}
@@ -45,6 +47,10 @@ module _ (b : Book) (q at r s : ℕ) (k l m : List ℕ) (h : r ≤ length k) (p 
   pub lines-done : (j : List ℕ) → 39 ≤ length j → q ≡ market_count b → Put header 0 at j k → Put (lines b) 0 r j l
   unfolding lines
   lines-done j g e o = rw (← e) (put_then g o p)
+
+-- the region, the market and the place of market q of a book
+pub market-of : (q R M : ℕ) → q < R * M → R ≤ 8 → 0 < M → M ≤ 11 → (q / M < 8) × (q % M < 11) × (11 * (q / M) + q % M < 88)
+market-of q R M h r p m = (omega (arith, (div-lt_iff_lt-mul p).1 h), omega (arith, mod-lt q p), flat-place q R M h r p m)
 
 -- the ways of a sheet, in order
 module _ (l : List ℕ) where
