@@ -8,13 +8,14 @@ use native.Mathlib.Omega.{arith}
 use borrow.Author.Tests.{lt-ltb, le-ltb, ltb-true, ltb-false}
 use Rattle.std.proofs.Common.{Option, Some, None, append_assoc}
 use lib.Dec.{ltb}
-use lib.ListN.{length, take, drop, length-append, length-drop}
+use lib.ListN.{length, get_or, take, drop, length-append, length-drop}
 use lib.Seq.{sets, sets-eq, drop-drop, length-take-le}
 use Rattle.laws.specs.Base.{pick}
-use Rattle.laws.specs.Lists.{joined}
+use Rattle.laws.specs.Lists.{tabulate, joined}
 use Rattle.laws.proofs.Bytes.{sets-front}
 use Rattle.laws.proofs.Fields.{part_then}
-use Rattle.laws.proofs.Joined.{length-joined, sum_same}
+use Rattle.laws.proofs.Joined.{take-run, length-joined, sum_same}
+use Rattle.laws.proofs.Lists.{run-same}
 use Rattle.laws.proofs.Tests.{by-test, true-is}
 use Rattle.pricing.specs.Verdict.{refused}
 use Rattle.book.specs.declared.record.Book.{Book}
@@ -40,6 +41,12 @@ module _ (R k x : ℕ) where
 
 pub found-none : (R x : ℕ) → x ≡ R → None ≡ pick (ltb x R) (Some x) None
 found-none R x e = rw (e, le-ltb R R (omega arith)) refl
+
+-- ---- bytes moved one by one are the part of which they are
+pub part-is : (bytes : List ℕ) (from n : ℕ) → from + n ≤ length bytes → tabulate n (λ k. get_or bytes (from + k) 0) ≡ take n (drop from bytes)
+part-is bytes from n h =
+    run-same n 0 from (λ k. get_or bytes (from + k) 0) (λ k. get_or bytes k 0) (λ k l. let z : 0 + k ≡ k = omega arith in rw z refl)
+    ∙ sym (take-run 0 bytes n from h)
 
 -- ---- bytes put in the place of as many
 pub part-put : (l ys vs : List ℕ) (at k n : ℕ) → ys ≡ vs → length vs ≡ n → k ≡ n → at + n ≤ length l

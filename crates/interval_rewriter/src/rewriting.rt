@@ -12,12 +12,15 @@ use book::record::{Book, Refusal, Reply, has_link};
 use book::validity::valid;
 use interval_records::layout::{interval_length, link_length};
 
-// `n` bytes from a place, put at a place of the buffer: a record moves as it stands.
+// `n` bytes from a place, put at a place of the buffer: a record moves as it stands. A loop: the library's copy would have the archive ask
+// its host for memmove.
 fn copy(bytes: &[u8], from: usize, n: usize, buffer: &mut [u8], to: usize)
     requires { (from + n ≤ length bytes.now) × (to + n ≤ length buffer.old) }
     ensures { buffer.new ≡ sets buffer.old to (take n (drop from bytes.now)) }
 {
-    buffer[to..to + n].copy_from_slice(&bytes[from..from + n]);
+    for i in 0..n {
+        buffer[to + i] = bytes[from + i];
+    }
 }
 
 // The records of all regions, in number order, behind the head.

@@ -15,8 +15,8 @@ returns-in-Err c =
     let bill = bill_of a.records.now a.schedule.now a.region (lines_of a.numbers.now a.energy.now a.prices.now a.amounts.now) in
     billed-refused a.book a.ring.now a.work.now bill c.lent_verdict-lent.result c.lent_verdict-lent.ensures _ c.in-Err.is
 
-pub copy_from_slice-requires : goal.copy_from_slice-requires
-copy_from_slice-requires c =
+pub copy-requires : goal.copy-requires
+copy-requires c =
     let a = c.args in
     let bill = bill_of a.records.now a.schedule.now a.region (lines_of a.numbers.now a.energy.now a.prices.now a.amounts.now) in
     let l = lent_ok a.book a.ring.now a.work.now bill c.lent_verdict-lent.result c.lent_verdict-lent.ensures c.in_default.is in
@@ -41,7 +41,7 @@ pub returns : goal.returns
 returns c =
     let a = c.args in
     let bill = bill_of a.records.now a.schedule.now a.region (lines_of a.numbers.now a.energy.now a.prices.now a.amounts.now) in
-    let work : c.copy_from_slice.new.self ≡ a.ring.now = c.copy_from_slice.ensures.after in
+    let work : c.copy.new.work ≡ a.ring.now = c.copy.ensures in
     let day : told_in c.play_day-played.result c.play_day-played.new.work ≡ told bill.lines (day_of a.book a.ring.now bill) =
     c.play_day-played.ensures ∙ ap (λ (l : List ℤ). told bill.lines (day_of a.book l bill)) work in
     billed-judged a.book a.ring.now a.work.now bill c.lent_verdict-lent.result c.lent_verdict-lent.ensures c.in_default.is
