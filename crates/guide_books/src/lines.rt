@@ -98,7 +98,8 @@ fn entered(book: Book, ring: &mut [i32], line: &[u8], lines: Lines) -> Book {
     let flows = numbers::<i32, 9>(lines.flows);
     let factors = numbers::<u32, 9>(lines.factors);
     let schedule = numbers::<i32, 32>(lines.schedule);
-    let mut table = numbers::<i32, 16>(lines.prices);
+    let mut places = [0i32; 16];
+    let table = &mut places[..prices.len()];
     let entry = Entry {
         kind,
         prices: prices.as_slice(),
@@ -107,9 +108,9 @@ fn entered(book: Book, ring: &mut [i32], line: &[u8], lines: Lines) -> Book {
         factors: factors.as_slice(),
         schedule: schedule.as_slice(),
     };
-    let e = enter(book, ring, number, &entry, table.as_mut_slice());
+    let e = enter(book, ring, number, &entry, table);
     let publication = e.answer;
-    published(publication, table.as_slice());
+    published(publication, table);
     e.book
 }
 

@@ -61,7 +61,8 @@ fn entered(book: Book, ring: &mut [i32], line: &[u8], lines: Lines) -> Book {
     let [number] = fields::<u32, 1>(line, 0);
     let prices = numbers::<i32, 16>(lines.prices);
     let factors = numbers::<u32, 9>(lines.factors);
-    let mut table = numbers::<i32, 16>(lines.prices);
+    let mut places = [0i32; 16];
+    let table = &mut places[..prices.len()];
     let regions = prices.len().min(8);
     let entry = Entry {
         kind: 0,
@@ -71,9 +72,9 @@ fn entered(book: Book, ring: &mut [i32], line: &[u8], lines: Lines) -> Book {
         factors: factors.as_slice(),
         schedule: &[0; 32][..2 * prices.len()],
     };
-    let e = enter(book, ring, number, &entry, table.as_mut_slice());
+    let e = enter(book, ring, number, &entry, table);
     let publication = e.answer;
-    published(publication, table.as_slice());
+    published(publication, table);
     e.book
 }
 

@@ -24,10 +24,8 @@ pub fn number(n: u64) {
 
 // A whole number with its sign.
 pub fn signed(z: i32) {
-    say(b" ");
-    if z < 0 {
-        say(b"-");
-    }
+    let sign: &[u8] = if z < 0 { b" -" } else { b" " };
+    say(sign);
     io::print_decimal(1, u64::from(z.unsigned_abs()));
 }
 

@@ -63,16 +63,14 @@ fn longer(n: u64, digit: u8) -> u64
 fn next_number(line: &[u8]) -> Option<(Number, &[u8])> {
     let from = line.iter().position(|b| b.is_ascii_digit())?;
     let minus = from > 0 && line[from - 1] == b'-';
-    let digits = &line[from..];
-    let end = digits
-        .iter()
-        .position(|b| !b.is_ascii_digit())
-        .unwrap_or(digits.len());
     let mut value: u64 = 0;
-    for b in &digits[..end] {
-        value = longer(value, *b);
+    for i in from..line.len() {
+        if !line[i].is_ascii_digit() {
+            return Some((Number { minus, value }, &line[i..]));
+        }
+        value = longer(value, line[i]);
     }
-    Some((Number { minus, value }, &digits[end..]))
+    Some((Number { minus, value }, b""))
 }
 
 // Puts the numbers of a line after those that are there, as many as there is room for.
@@ -99,10 +97,11 @@ pub fn fields<T: From<Number> + Copy, const N: usize>(line: &[u8], missing: T) -
     let mut fields = [missing; N];
     let mut rest = line;
     for k in 0..N {
-        if let Some((number, after)) = next_number(rest) {
-            fields[k] = T::from(number);
-            rest = after;
-        }
+        let Some((number, after)) = next_number(rest) else {
+            return fields;
+        };
+        fields[k] = T::from(number);
+        rest = after;
     }
     fields
 }
