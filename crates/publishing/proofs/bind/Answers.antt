@@ -1,6 +1,6 @@
 -- `publishing::bind` meets its contract. Assumes nothing.
 use borrow.Author.Rules.{rules}
-use mathlib.Core.Path.{◌≡◌, refl}
+use mathlib.Core.Path.{◌≡◌, refl, ◌∙◌}
 use mathlib.Core.Bool.{Bool, true, false}
 use mir.Syntax.{w32}
 use mir.Val.{SFits}
@@ -17,7 +17,7 @@ unbound true x = refl
 unbound false x = refl
 
 pub returns-in-None : goal.returns-in-None
-returns-in-None c = rw (to_z-of_z c.ranges.price, c.in-None.is) (unbound c.args.caps c.args.price)
+returns-in-None c = to_z-of_z c.ranges.price ∙ rw c.in-None.is (unbound c.args.caps c.args.price)
 
 pub returns-then-caps : goal.returns-then-caps
 unfolding at_most

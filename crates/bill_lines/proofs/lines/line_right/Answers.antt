@@ -1,17 +1,18 @@
 -- `bill_lines::lines::line_right` meets its contract. The product fits by the ranges of energy and price. Assumes nothing.
 use borrow.Author.Rules.{rules}
-use mathlib.Core.Path.{◌≡◌, refl}
+use mathlib.Core.Path.{◌≡◌, ap, ◌∙◌}
+use mathlib.Core.Bool.{◌&&◌}
+use lib.Dec.{eqb}
 use Prim.Native.Nat.{◌*◌, ◌≤◌}
 use native.Mathlib.Nat.{mul-le-mul}
 use native.Mathlib.Omega.{arith}
 use lib.IntN.{nat_abs}
 use mir.Syntax.{w32, w64}
-use mir.Val.{SFits}
-use mir.Facts.{to_z-of_z}
+use mir.Val.{SFits, of_z}
 use Rattle.laws.proofs.Integers.{fits-abs}
 use Rattle.laws.proofs.Machine.{Exp, int, nat, ◌⊠◌, seen, val, exact}
 use Rattle.laws.proofs.Sames.{same-bits}
-use Rattle.bill_lines.specs.Lines.{amount_of, line_right}
+use Rattle.bill_lines.specs.Lines.{same, amount_of, line_right}
 use Rattle.bill_lines.proofs.lines.line_right.Goals as goal
 
 pub returns : goal.returns
@@ -26,4 +27,7 @@ returns c =
     let f : SFits w64 c.rounded-due.result = search rules in
     let g : SFits w32 a.asked = search rules in
     let h : SFits w64 a.charged = search rules in
-    rw (same-bits w32 a.asked a.price g fits, same-bits w64 a.charged c.rounded-due.result h f, due) refl
+    let price : eqb (of_z w32 a.asked) (of_z w32 a.price) ≡ same a.asked a.price = same-bits w32 a.asked a.price g fits in
+    let amount : eqb (of_z w64 a.charged) (of_z w64 c.rounded-due.result) ≡ same a.charged (amount_of a.used a.price) =
+    same-bits w64 a.charged c.rounded-due.result h f ∙ ap (same a.charged) due in
+    λ i. (eqb a.said a.number && price i) && amount i
